@@ -1,0 +1,32 @@
+// A stage: three registers, the shift-and-add step, and the kinds of hardware that make it.
+mod log;
+mod parallel;
+mod recorder;
+mod registers;
+mod settle;
+mod shift;
+mod stage;
+mod step;
+
+pub use parallel::Parallel;
+pub use parallel::ParallelStage;
+pub use recorder::Recorder;
+pub use recorder::RecorderStage;
+pub use registers::Register;
+pub use registers::RegisterDebug;
+pub use registers::RegisterPartialEq;
+pub use registers::Triple;
+pub use registers::TripleDebug;
+pub use registers::TriplePartialEq;
+pub use shift::Shift;
+pub use stage::Stage;
+pub use step::Direction;
+pub use step::DirectionDebug;
+pub use step::DirectionPartialEq;
+pub use step::Overflow;
+pub use step::OverflowDebug;
+pub use step::OverflowPartialEq;
+pub use step::Step;
+pub use step::System;
+pub use step::SystemDebug;
+pub use step::SystemPartialEq;
