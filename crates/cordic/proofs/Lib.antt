@@ -1,0 +1,15 @@
+pub mod Places
+pub mod Spans
+pub mod Spent
+pub mod Reaching
+pub mod Loads
+pub mod Outs
+pub mod Runs
+pub mod Halting
+pub mod Holds
+pub mod Moved
+pub mod Passes
+pub mod Ends
+pub mod Turning
+pub mod Nearest
+pub mod Bare
