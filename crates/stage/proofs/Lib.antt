@@ -1,2 +1,4 @@
 pub mod Settling
 pub mod Recording
+pub mod Carry
+pub mod Signs

@@ -2,5 +2,8 @@
 pub mod Word
 pub mod Step
 pub mod Stage
+pub mod Adder
+pub mod Bits
 pub mod Recorder
 pub mod Log
+pub mod Probe

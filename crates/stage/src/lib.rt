@@ -1,15 +1,27 @@
 // A stage: three registers, the shift-and-add step, and the kinds of hardware that make it.
+mod adder;
+mod bit_serial;
+mod bits;
 mod log;
+mod operand;
 mod parallel;
+mod probe;
 mod recorder;
 mod registers;
+mod serial;
 mod settle;
 mod shift;
 mod stage;
 mod step;
+#[cfg(test)]
+mod tests;
 
+pub use bit_serial::BitSerial;
+pub use bit_serial::BitSerialStage;
 pub use parallel::Parallel;
 pub use parallel::ParallelStage;
+pub use probe::Probe;
+pub use probe::ProbeStage;
 pub use recorder::Recorder;
 pub use recorder::RecorderStage;
 pub use registers::Register;

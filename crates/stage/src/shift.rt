@@ -29,6 +29,12 @@ impl Shift {
         }
     }
 
+    pub(crate) fn none() -> Shift
+        ensures answer { λ r. ⌜ r .amount ≡ 0 ⌝ }
+    {
+        Shift { amount: 0 }
+    }
+
     pub fn amount(self) -> u32
         ensures answer { λ r. ⌜ r ≡ self .amount ⌝ }
     {
