@@ -24,7 +24,7 @@ use Rattle.stage.specs.declared.step.System.the-variants.{Linear}
 use Rattle.stage.specs.declared.step.Direction.the-variants.{Plus, Minus}
 use Rattle.cordic.specs.Mode.{sign, opposed}
 use Rattle.cordic.specs.Order.{total, Covered}
-use Rattle.cordic.specs.Outcome.{State, Out, went, stopped, AtEnd}
+use Rattle.cordic.specs.Outcome.{State, AtEnd}
 use Rattle.cordic.specs.Tables.{linear}
 use Rattle.cordic.specs.Unit.{beyond, span, limit, steep, refusal, told, passed}
 use Rattle.cordic.specs.declared.mode.Mode.{Mode}
@@ -33,7 +33,7 @@ use Rattle.cordic.specs.declared.order.Iteration.{Iteration}
 use Rattle.cordic.specs.declared.faults.Cause.{Cause}
 use Rattle.cordic.specs.declared.faults.Cause.the-variants.{Unreachable, BadStart}
 use Rattle.cordic.specs.declared.faults.UnitFault.{UnitFault}
-use Rattle.cordic.proofs.Holds.{Holds}
+use Rattle.cordic.proofs.Holds.{holds-end}
 use Rattle.cordic.proofs.Moved.{moved, entries, partsOf, RisingFrom, total-is, span-is}
 use Rattle.cordic.proofs.Passes.{Passes, Fails, passes}
 use Rattle.cordic.proofs.Spent.{sum, Slack, greedy, spent}
@@ -91,11 +91,11 @@ pub rotation-spends : (m : System) (ks : List Iteration) → Covered ks → (t :
 rotation-spends m ks c t h = rw rotation-is (spent 1 (entries ks) (t .z) (covered-slack ks c) (rw (total-is ks) at h))
 
 -- the shifts of the linear order rise by one from 1 to 28
-linear-rising : RisingFrom 1 linear
+pub linear-rising : RisingFrom 1 linear
 unfolding linear
 linear-rising = omega arith
 
-linear-length : length linear ≡ 28
+pub linear-length : length linear ≡ 28
 unfolding linear
 linear-length = refl
 
@@ -114,15 +114,11 @@ or-false : (a b : Bool) → a || b ≡ false → (a ≡ false) × (b ≡ false)
 or-false true b e = let z : _≡_ {A = ℕ} 0 1 = cc in absurd (omega arith)
 or-false false b e = (refl, e)
 
-at-end : {V F : Type 0} (P : V → Type 0) (Q : V → ℕ → State → Type 0) (R : F → Type 0) (o : Out V F) → ((v : V) (n : ℕ) (s : State) → Q v n s → P v) → Holds Q R o → AtEnd P o
-at-end P Q R (went v n s) f h = f v n s h
-at-end P Q R (stopped e n s) f h = tt
-
 pub rotation-ends : (rule : Rule) (m : System) (ks : List Iteration) (t : Triple) (s : State) → Covered ks
     → AtEnd (λ u. natAbs (u .z) ≤ 1) (passed rule m ks Rotation t s)
 rotation-ends rule m ks t s c =
-    at-end (λ u. natAbs (u .z) ≤ 1) (Passes m ks Rotation t) (Fails m ks Rotation t) (passed rule m ks Rotation t s)
-    (λ v n u p. rw (p .1) (rotation-spends m ks c t (ltb-false (total ks + 1) (natAbs (t .z)) (cond-none (beyond ks (t .z)) Unreachable (p .0)))))
+    holds-end (λ u. natAbs (u .z) ≤ 1) (Passes m ks Rotation t) (Fails m ks Rotation t s) (passed rule m ks Rotation t s)
+    (λ v n u p. rw (p .ends) (rotation-spends m ks c t (ltb-false (total ks + 1) (natAbs (t .z)) (cond-none (beyond ks (t .z)) Unreachable (p .through)))))
     (passes rule m ks Rotation t s)
 
 not-negative : (x : ℤ) → ltZ x (pos 0x100_0000) ≡ false → (a : ℕ) × (x ≡ pos a)
@@ -150,6 +146,6 @@ vectored t e =
 pub vectoring-ends : (rule : Rule) (t : Triple) (s : State)
     → AtEnd (λ u. pos (natAbs (u .y)) ≤ℤ (shifted (t .x) 28 +ℤ pos 27)) (passed rule Linear linear Vectoring t s)
 vectoring-ends rule t s =
-    at-end (λ u. pos (natAbs (u .y)) ≤ℤ (shifted (t .x) 28 +ℤ pos 27)) (Passes Linear linear Vectoring t) (Fails Linear linear Vectoring t) (passed rule Linear linear Vectoring t s)
-    (λ v n u p. rw (p .1) (vectored t (p .0)))
+    holds-end (λ u. pos (natAbs (u .y)) ≤ℤ (shifted (t .x) 28 +ℤ pos 27)) (Passes Linear linear Vectoring t) (Fails Linear linear Vectoring t s) (passed rule Linear linear Vectoring t s)
+    (λ v n u p. rw (p .ends) (vectored t (p .through)))
     (passes rule Linear linear Vectoring t s)

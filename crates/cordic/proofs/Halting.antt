@@ -1,8 +1,7 @@
 -- The refusal of a run, from the step that the stage refused.
 use Prim.Native.Nat.{ℕ, _+_}
-use mathlib.Core.Path.{_≡_, refl, ap, _∙_}
+use mathlib.Core.Path.{_≡_, refl, ap}
 use mathlib.Core.List.{List}
-use Rattle.std.specs.declared.option.Option.the-variants.{Some}
 use Rattle.std.specs.declared.result.Result.the-variants.{Err}
 use Rattle.stage.specs.Stage.{Rule}
 use Rattle.stage.specs.declared.stage.Stage.{Ghosts}
@@ -10,12 +9,11 @@ use Rattle.stage.specs.declared.step.System.{System}
 use Rattle.cordic.specs.Halted.{refusedBy}
 use Rattle.cordic.specs.Outcome.{State, stopped, inside}
 use Rattle.cordic.specs.Seen.{stateOf, runSeen, Halts}
-use Rattle.cordic.specs.Unit.{overflowed, ran, unitRan}
+use Rattle.cordic.specs.Unit.{overflowed, ran, unitRan, Escapes}
 use Rattle.cordic.specs.declared.mode.Mode.{Mode}
 use Rattle.cordic.specs.declared.order.Iteration.{Iteration}
 use Rattle.cordic.specs.declared.halted.Halted.{Halted}
 use Rattle.cordic.specs.declared.halted.Place.{Place}
-use Rattle.cordic.specs.declared.states.Finished.{Finished}
 
 abbrev pub placeAt : System → Mode → ℕ → Place
 placeAt m o n = record { system = m; mode = o; steps = n; step = n + 1 }
@@ -25,5 +23,5 @@ module _ {X : Type 0} (S : Ghosts X) (h : Halted X) (m : System) (o : Mode) (n :
       → runSeen S (Err (refusedBy h)) ≡ unitRan rule m ks o s
   halted-run rule ks s r = rw e (ap (inside (overflowed m o)) r)
 
-  pub halted-says : h .overflow .kept ≡ S .triple (h .stage) → Halts S (refusedBy h)
-  halted-says k = record { number = refl; steps = refl; step = rw e; kept = ap Some k }
+  pub halted-says : (ks : List Iteration) → Escapes m ks o n (h .overflow) (S .triple (h .stage)) → Halts S m ks o (refusedBy h)
+  halted-says ks x = record { overflow = h .overflow; fault = rw e; number = refl; escapes = rw e x }

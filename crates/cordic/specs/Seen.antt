@@ -1,14 +1,17 @@
 -- What the code of the unit gives back, as an outcome, for a kind of stage.
-use Prim.Native.Nat.{ℕ, _+_}
+use Prim.Native.Nat.{ℕ}
 use mathlib.Core.Path.{_≡_}
-use Rattle.std.specs.declared.option.Option.{Option}
-use Rattle.std.specs.declared.option.Option.the-variants.{Some, None}
+use mathlib.Core.List.{List}
 use Rattle.std.specs.declared.result.Result.{Result}
 use Rattle.std.specs.declared.result.Result.the-variants.{Ok, Err}
 use Rattle.stage.specs.declared.stage.Stage.{Ghosts}
 use Rattle.stage.specs.declared.step.Overflow.{Overflow}
+use Rattle.stage.specs.declared.step.System.{System}
 use Rattle.cordic.specs.Outcome.{State, Out, went, stopped}
 use Rattle.cordic.specs.Faults.{reported}
+use Rattle.cordic.specs.Unit.{overflowed, Escapes}
+use Rattle.cordic.specs.declared.mode.Mode.{Mode}
+use Rattle.cordic.specs.declared.order.Iteration.{Iteration}
 use Rattle.cordic.specs.declared.faults.UnitFault.{UnitFault}
 use Rattle.cordic.specs.declared.states.Loaded.{Loaded}
 use Rattle.cordic.specs.declared.states.Finished.{Finished}
@@ -36,13 +39,13 @@ abbrev pub RefusedWith : {X A : Type 0} → ℕ → Result A (Refused X UnitFaul
 RefusedWith n (Ok a) = ⊥
 RefusedWith n (Err e) = reported (e .fault) .number ≡ n
 
--- a refused run: 7 at the step after those made, and the triple that the fault carries is the one that the stage still holds
-pub record Halts {X : Type 0} (S : Ghosts X) (e : Refused X UnitFault) : Type 0 where
+-- a refused run: 7 at the step after those made, from the triple that the stage still holds
+pub record Halts {X : Type 0} (S : Ghosts X) (m : System) (ks : List Iteration) (o : Mode) (e : Refused X UnitFault) : Type 0 where
+  pub overflow : Overflow
+  pub fault : e .fault ≡ overflowed m o overflow (e .steps)
   pub number : reported (e .fault) .number ≡ 7
-  pub steps : e .fault .steps ≡ e .steps
-  pub step : reported (e .fault) .step ≡ Some (e .steps + 1)
-  pub kept : reported (e .fault) .kept ≡ Some (S .triple (e .unit .stage))
+  pub escapes : Escapes m ks o (e .steps) overflow (S .triple (e .unit .stage))
 
-abbrev pub HaltsIn : {X A : Type 0} → Ghosts X → Result A (Refused X UnitFault) → Type 0
-HaltsIn S (Ok a) = Unit {0}
-HaltsIn S (Err e) = Halts S e
+abbrev pub HaltsIn : {X A : Type 0} → Ghosts X → System → List Iteration → Mode → Result A (Refused X UnitFault) → Type 0
+HaltsIn S m ks o (Ok a) = Unit {0}
+HaltsIn S m ks o (Err e) = Halts S m ks o e

@@ -6,7 +6,9 @@
 --   loaded    a load
 --   unitRan   the run of a loaded unit
 --   passed    a load, its run and the read-out
+--   Escapes   what the refusal of a step says
 use Prim.Native.Nat.{ℕ, _+_, _*_}
+use mathlib.Core.Path.{_≡_}
 use mathlib.Core.Bool.{Bool, true, false, cond, _||_}
 use mathlib.Core.List.{List, [], _∷_}
 use lib.IntN.{ℤ, pos, natAbs, _*ℤ_, _+ℤ_}
@@ -26,7 +28,7 @@ use Rattle.stage.specs.declared.step.System.the-variants.{Linear, Circular, Hyp
 use Rattle.stage.specs.declared.step.Overflow.{Overflow}
 use Rattle.cordic.specs.Mode.{directed}
 use Rattle.cordic.specs.Outcome.{State, Out, went, stopped, onward, inside}
-use Rattle.cordic.specs.Order.{total}
+use Rattle.cordic.specs.Order.{nth, total}
 use Rattle.cordic.specs.declared.mode.Mode.{Mode}
 use Rattle.cordic.specs.declared.mode.Mode.the-variants.{Rotation, Vectoring}
 use Rattle.cordic.specs.declared.order.Iteration.{Iteration}
@@ -98,3 +100,10 @@ readOut (stopped f n s) = stopped f n s
 
 unfoldable pub passed : Rule → System → List Iteration → Mode → Triple → State → Out Triple UnitFault
 passed rule m ks o t s = readOut (onward (λ _. unitRan rule m ks o) (loaded rule m ks o t s))
+
+-- the iteration that follows n accepted ones takes the register of f out of the word, from the triple that is still held
+pub record Escapes (m : System) (ks : List Iteration) (o : Mode) (n : ℕ) (f : Overflow) (held : Triple) : Type 0 where
+  pub next : Iteration
+  pub follows : nth ks n ≡ Some next
+  pub refused : stepped (told m o next held) held ≡ Err f
+  pub kept : f .kept ≡ held

@@ -55,7 +55,7 @@ impl<S: Stage, C: Coordinate + Copy> Loaded<S, C> {
     // All iterations, or the refusal of one, which leaves the stage at the last accepted triple.
     pub fn run(self) -> Result<Finished<S>, Refused<S, UnitFault>>
         ensures answer { λ r. ⌜ runSeen S·Stage r ≡ unitRan (S·Stage .rule) (C·Coordinate .kind) (C·Coordinate .order) (self .mode) (stateOf S·Stage (self .stage)) ⌝ }
-        ensures refused { λ r. ⌜ HaltsIn S·Stage r ⌝ }
+        ensures refused { λ r. ⌜ HaltsIn S·Stage (C·Coordinate .kind) (C·Coordinate .order) (self .mode) r ⌝ }
     {
         let Loaded {
             mut stage,

@@ -7,7 +7,7 @@ use Rattle.cordic.specs.Outcome.{inside}
 use Rattle.cordic.specs.Unit.{overflowed}
 use Rattle.cordic.proofs.Halting.{placeAt, halted-run, halted-says}
 use Rattle.cordic.proofs.Places.{within, at-place}
-use Rattle.cordic.proofs.Runs.{run-on, run-halt, run-done, halt-keeps}
+use Rattle.cordic.proofs.Runs.{run-on, run-halt, run-done, halt-escapes}
 use Rattle.cordic.proofs.states.Loaded.run.Needs as need
 
 pub advance-requires : need.advance-requires
@@ -20,10 +20,10 @@ returns-in-Break-stage g c =
     let e = run-halt (g .S·Stage .rule) (g .C·Coordinate .kind) (c .args .self .mode) (g .C·Coordinate .order) (c .loop-k .steps) _ (c .loop-k .inv .0) _ (c .in-Some .ensures tt .answer) t in
     let h = c .in-Break-stage .field-0 .0 in
     let q : h .place ≡ placeAt (g .C·Coordinate .kind) (c .args .self .mode) (c .loop-k .steps) = c .in-Break-stage .ensures tt .same ∙ rw (c .system .ensures .answer) in
-    let k = halt-keeps (g .S·Stage .rule) _ _ _ _ _ (c .in-Break-stage .ensures tt .answer) in
+    let k = halt-escapes (g .S·Stage .rule) (g .C·Coordinate .kind) (c .args .self .mode) (g .C·Coordinate .order) (c .in-Some .k) _ _ _ _ (c .loop-k .steps) (c .in-Some .ensures tt .answer) t in
     rw (p .1, p .2) (record {
       answer = halted-run (g .S·Stage) h (g .C·Coordinate .kind) (c .args .self .mode) (c .loop-k .steps) q (g .S·Stage .rule) (g .C·Coordinate .order) _ e;
-      refused = halted-says (g .S·Stage) h _ _ (c .loop-k .steps) q k;
+      refused = halted-says (g .S·Stage) h (g .C·Coordinate .kind) (c .args .self .mode) (c .loop-k .steps) q (g .C·Coordinate .order) k;
     })
 
 pub loop-k-less : need.loop-k-less
