@@ -20,6 +20,8 @@ mod runs;
 mod sample;
 mod site;
 mod tanh;
+#[cfg(test)]
+mod tests;
 mod walk;
 mod within;
 
