@@ -17,7 +17,6 @@ pub mod Sampling
 pub mod Layering
 pub mod Checks
 pub mod Placing
-pub mod Ready
 pub mod Meaning
 pub mod Quiet
 pub mod Copies
