@@ -1,4 +1,6 @@
 // The C interface: runs of a network, a check of a plan and one rotation, as functions that C can call.
+#![tactic(auto)]
+
 mod converters;
 mod fields;
 mod plans;

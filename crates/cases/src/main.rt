@@ -1,4 +1,6 @@
 // The program `cases`: runs each request of standard input on two stages, and prints a line for each of the two.
+#![tactic(auto)]
+
 mod digest;
 mod done;
 mod fields;

@@ -1,16 +1,16 @@
 -- A table's rule at each of its entries, from one test over the table that antt computes.
-use Rattle.std.proofs.Common.{◌≡◌, ℕ, zero, suc, ◌+◌, ◌-◌, ◌*◌, ◌^◌, Bool, true, false, ◌&&◌, T, eqb, List, [], ◌∷◌, ℤ, pos, ◌+ℤ◌, ◌-ℤ◌, ◌*ℤ◌, Option, eqb→eq}
+use Rattle.std.proofs.Common.{◌≡◌, ℕ, zero, suc, ◌+◌, ◌-◌, ◌*◌, ◌^◌, Bool, true, false, ◌&&◌, T, eqb, List, [], ◌∷◌, ℤ, pos, ◌+ℤ◌, ◌-ℤ◌, ◌*ℤ◌, ◌<ℤ◌, Some, None, Option, arith, eqb→eq}
 use lib.Signed.{lt_z, lt_z_yes}
 use Rattle.cordic.specs.Order.{nth}
 use Rattle.cordic.specs.Series.{Fraction, plus, term, atan_sum, atanh_sum, Nearest, NearAtan, NearAtanh, PowerEntry, OfEntry}
 use Rattle.cordic.specs.Tables.{linear, circular, hyperbolic}
 use Rattle.cordic.specs.declared.order.Iteration.{Iteration}
 
-pub both_left : (a b : Bool) → T (a && b) → T a
+both_left : (a b : Bool) → T (a && b) → T a
 both_left true b t = tt
 both_left false b t = t
 
-pub both_right : (a b : Bool) → T (a && b) → T b
+both_right : (a b : Bool) → T (a && b) → T b
 both_right true b t = t
 both_right false b t = absurd t
 

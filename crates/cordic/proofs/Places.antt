@@ -1,5 +1,5 @@
 -- The iteration at a place of an order.
-use Rattle.std.proofs.Common.{◌≡◌, ℕ, zero, suc, ◌+◌, ◌%◌, ◌<◌, ◌≤◌, List, [], ◌∷◌, map, length, get_or, drop, Some, None, refl, ap, subst, le_of_suc-le-suc, not-suc-le-zero, suc-add, arith}
+use Rattle.std.proofs.Common.{◌≡◌, ℕ, zero, suc, ◌+◌, ◌<◌, ◌≤◌, min, List, [], ◌∷◌, map, length, get_or, drop, Some, None, refl, ap, subst, le_of_suc-le-suc, not-suc-le-zero, suc-add, arith}
 use native.Mathlib.Bridge.{le_prop}
 use Rattle.std.specs.List.{AllByRecursion as All}
 use Rattle.stage.specs.declared.shift.Shift.{Shift}
@@ -12,7 +12,7 @@ shift_same m n p q e =
     subst P e (λ r. ap (λ w. record { amount = m; within = w }) (le_prop p r)) q
 
 -- a shift is its amount
-pub shift_is : (s : Shift) (n : ℕ) → s.amount ≡ n % 32 → s ≡ shift_of n
+pub shift_is : (s : Shift) (n : ℕ) → s.amount ≡ min n 31 → s ≡ shift_of n
 shift_is s n e = shift_same _ _ _ _ e
 
 pub nth_row : (rows : List (ℕ × ℕ)) (i : ℕ) → i < length rows → Some (iteration (get_or rows i (0, 0))) ≡ nth (map iteration rows) i

@@ -5,8 +5,8 @@
 --   Lawful       every entry above zero, the last one 1, each at most the sum of the later ones plus 1
 --   residue      what a choice of directions leaves of an angle
 --   Reachable    some choice of directions, one for each iteration, leaves at most one unit
-use Rattle.std.specs.Prelude.{◌≡◌, ℕ, zero, suc, ◌+◌, ◌%◌, ◌<◌, ◌≤◌, List, [], ◌∷◌, length, ℤ, pos, ◌-ℤ◌, Some, None, Option, unsigned_abs}
-use Rattle.std.proofs.Common.{mod-lt, le_of_suc-le-suc, zero-lt-suc}
+use Rattle.std.specs.Prelude.{◌≡◌, ℕ, zero, suc, ◌+◌, ◌<◌, ◌≤◌, min, List, [], ◌∷◌, length, ℤ, pos, ◌-ℤ◌, Some, None, Option, unsigned_abs}
+use Rattle.std.proofs.Math.Nat.{min-le_right}
 use Rattle.std.specs.List.{AllByRecursion as All}
 use Rattle.stage.specs.Step.{signed}
 use Rattle.stage.specs.declared.shift.Shift.{Shift}
@@ -15,7 +15,7 @@ use Rattle.cordic.specs.declared.order.Iteration.{Iteration}
 
 -- a shift of 0 to 31
 abbrev pub shift_of : ℕ → Shift
-shift_of s = record { amount = s % 32; within = le_of_suc-le-suc (mod-lt s (zero-lt-suc 31)) }
+shift_of s = record { amount = min s 31; within = min-le_right s 31 }
 
 -- a row of a table
 abbrev pub iteration : ℕ × ℕ → Iteration

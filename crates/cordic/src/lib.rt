@@ -1,4 +1,6 @@
 // The CORDIC unit over any stage: coordinate systems with their orders of iterations, and load, run and read-out.
+#![tactic(auto)]
+
 mod circular;
 mod coordinate;
 mod faults;

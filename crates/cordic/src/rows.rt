@@ -14,7 +14,7 @@ pub(crate) fn iteration_at(rows: &[(u32, u32)], i: usize) -> Option<Iteration>
     }
     let (amount, entry) = rows[i];
     Some(Iteration {
-        shift: Shift::wrapping(amount),
+        shift: Shift::capped(amount),
         entry,
     })
 }

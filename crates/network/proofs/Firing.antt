@@ -1,12 +1,12 @@
 -- Neurons, layers and networks: what an accepted run comes to, and what stops one.
-use Rattle.std.proofs.Common.{◌≡◌, ℕ, suc, ◌+◌, ◌*◌, ◌≤◌, List, [], ◌∷◌, map, length, ℤ, Some, None, Option, sym, refl, ap, ◌∙◌, subst, add-zero, zero-add, arith}
+use Rattle.std.proofs.Common.{◌≡◌, ℕ, zero, suc, ◌+◌, ◌*◌, ◌^◌, ◌<◌, ◌≤◌, List, [], ◌∷◌, map, length, ℤ, Some, None, Option, sym, refl, ap, ◌∙◌, subst, add-zero, zero-add, arith}
 use Rattle.std.specs.List.{AllByRecursion as All}
 use Rattle.stage.specs.Stage.{Rule}
 use Rattle.stage.specs.declared.step.Overflow.{Overflow}
 use Rattle.stage.specs.declared.step.System.TheVariants.{Linear, Hyperbolic}
 use Rattle.cordic.specs.Faults.{reported}
 use Rattle.cordic.specs.Order.{Reachable}
-use Rattle.cordic.specs.Outcome.{State, went, stopped, onward, mapped, inside}
+use Rattle.cordic.specs.Outcome.{State, Out, went, stopped, onward, mapped, inside}
 use Rattle.cordic.specs.Tables.{linear, hyperbolic}
 use Rattle.cordic.specs.Unit.{unit_fault, overflowed, Escapes}
 use Rattle.cordic.specs.declared.mode.Mode.TheVariants.{Rotation}
@@ -15,17 +15,16 @@ use Rattle.cordic.specs.declared.faults.UnitFault.{UnitFault}
 use Rattle.cordic.proofs.Holds.{Said, Holds, Later, holds_onward, holds_mapped, holds_inside, holds_less, holds_went, holds_stopped}
 use Rattle.network.specs.Neuron.{Neuron, Net, Working, products, tanh, plain, squashed, activated, neuron_fault, fired}
 use Rattle.network.specs.Plan.{LayerOf}
-use Rattle.network.specs.Network.{Sized, Follows, Shaped}
+use Rattle.network.specs.Network.{Sized, Follows, Chained, Shaped}
 use Rattle.network.specs.Run.{output, located, layer, layers, entrance, cost_of, neuron_cost, cost}
 use Rattle.network.specs.Laws.{Output, Bounded, Fires, Chains}
-use Rattle.network.specs.Refusals.{place, InArithmetic, weight, net, register}
+use Rattle.network.specs.Refusals.{place, Weighs, InArithmetic, weight, net, register}
 use Rattle.network.specs.declared.activation.Activation.{Activation}
 use Rattle.network.specs.declared.activation.Activation.TheVariants.{Identity, Tanh}
 use Rattle.network.specs.declared.faults.NeuronFault.{NeuronFault}
 use Rattle.network.specs.declared.faults.Located.{Located}
 use Rattle.network.specs.declared.faults.NetworkFault.{NetworkFault}
 use Rattle.network.specs.declared.faults.NetworkFault.TheVariants.{Arithmetic}
-use Rattle.network.proofs.Flowing.{starts_at}
 use Rattle.network.proofs.Sums.{Sum, Ends, Faulty, Faults, sums_holds, rounded}
 use Rattle.network.proofs.Sums as sum
 use Rattle.network.proofs.Tanhs.{Squashed, TooFar, tanh_holds}
@@ -234,6 +233,10 @@ all_fed : (hs : List LayerOf) → All Sized hs → All Fed hs
 all_fed [] a = tt
 all_fed (h ∷ hs) a = ((a.0.fed, a.0.full), all_fed hs a.1)
 
+enters : (hs : List LayerOf) (m : ℕ) → m ≡ entrance hs → Chained hs → Follows m hs
+enters [] m e c = tt
+enters (h ∷ hs) m e c = (sym e, c)
+
 by_why : (hs : List LayerOf) (u : State) (l : Located) (h : LayerOf) (n : Neuron) → place hs l.layer ≡ Some h → place h.neurons l.neuron ≡ Some n
     → Why n.weights l.inner.input l.inner.unit u → InArithmetic hs l u
 by_why hs u l h n a b (by_weight i w e p c r) =
@@ -253,10 +256,10 @@ same_fault l k e = cc
 module _ (rule : Rule) (hs : List LayerOf) (xs : List ℤ) (s : State) (shaped : Shaped hs) (wide : length xs ≡ entrance hs) where
   pub runs : (w : List (List Working)) (n : ℕ) (u : State) → layers rule 0 hs xs s ≡ went w n u → Chains xs hs w × (n ≡ cost hs)
   runs w n u e =
-      holds_went (FiredLayers hs xs) (StoppedIn 0 hs xs) (layers_hold rule 0 hs xs s) e (all_fed hs shaped.sized) (starts_at hs (length xs) wide shaped.chained)
+      holds_went (FiredLayers hs xs) (StoppedIn 0 hs xs) (layers_hold rule 0 hs xs s) e (all_fed hs shaped.sized) (enters hs (length xs) wide shaped.chained)
 
   pub stops : (l : Located) (n : ℕ) (u : State) → layers rule 0 hs xs s ≡ stopped (Arithmetic l) n u → InArithmetic hs l u
   stops l n u e =
-      let i = holds_stopped (FiredLayers hs xs) (StoppedIn 0 hs xs) (layers_hold rule 0 hs xs s) e (all_fed hs shaped.sized) (starts_at hs (length xs) wide shaped.chained) in
+      let i = holds_stopped (FiredLayers hs xs) (StoppedIn 0 hs xs) (layers_hold rule 0 hs xs s) e (all_fed hs shaped.sized) (enters hs (length xs) wide shaped.chained) in
       let j = i.inner in
       by_place hs u l j.found i.within j.at i.back j.back (same_fault l j.found j.fault) j.layer i.there j.neuron j.there j.why

@@ -1,5 +1,5 @@
 -- The loop over the layers of a plan.
-use Rattle.std.proofs.Common.{◌≡◌, ℕ, zero, suc, ◌+◌, ◌*◌, ◌≤◌, List, [], ◌∷◌, map, length, drop, ℤ, nat_abs, Ok, Err, Result, sym, refl, ap, ◌∙◌, add-zero, zero-add, arith}
+use Rattle.std.proofs.Common.{◌≡◌, ℕ, zero, suc, ◌+◌, ◌*◌, ◌≤◌, List, [], ◌∷◌, ◌++◌, map, length, drop, ℤ, nat_abs, Ok, Err, Result, sym, refl, ap, ◌∙◌, add-zero, zero-add, arith}
 use Rattle.std.proofs.lemmas.List.{length-map, length-append, length-drop, drop-drop, drop_at}
 use Rattle.std.specs.List.{AllByRecursion as All}
 use Rattle.stage.specs.Stage.{Rule}
@@ -9,6 +9,7 @@ use Rattle.cordic.specs.Seen.{seen, state_of}
 use Rattle.cordic.specs.declared.states.Answer.{Answer}
 use Rattle.cordic.specs.declared.states.Refused.{Refused}
 use Rattle.cordic.proofs.Outs.{loop_on, loop_halt}
+use Rattle.network.specs.Bank.{words_of}
 use Rattle.network.specs.Neuron.{Neuron, Working, fired}
 use Rattle.network.specs.Network.{weight_records, neuron_records, layer_records, Sized, Follows, Chained}
 use Rattle.network.specs.Placing.{steps_made, later}
@@ -17,11 +18,12 @@ use Rattle.network.specs.Plan.{LayerOf, records, activation_at}
 use Rattle.network.specs.Reading.{Ahead}
 use Rattle.network.specs.Run.{output, located, layer, layers, entrance}
 use Rattle.network.specs.declared.activation.Activation.{Activation}
+use Rattle.network.specs.declared.bank.Bank.{Bank}
 use Rattle.network.specs.declared.faults.NetworkFault.{NetworkFault}
 use Rattle.network.specs.declared.record.Record.{Record}
 use Rattle.network.proofs.Bytes.{records_cons}
 use Rattle.network.proofs.Layering.{layer_length}
-use Rattle.network.proofs.ReadBack.{layers_more, length_weights}
+use Rattle.network.proofs.ReadBack.{layers_more}
 use Rattle.network.proofs.Short.{made_steps, mapped_steps, layer_short}
 
 -- ---- the recurrence
@@ -72,14 +74,14 @@ laid_width rule l a xs ns s ys n u h = width_by rule l a xs ns s (layer rule l (
 
 -- ---- the code
 
-seen_later : {X V F : Type 0} (S : Ghosts X) (n : ℕ) (ys : V → List ℤ) (r : Result (Answer X V) (Refused X F)) → mapped ys (seen S (later n r)) ≡ counted n (mapped ys (seen S r))
-seen_later S n ys (Ok a) = refl
-seen_later S n ys (Err e) = refl
+seen_later : {X F : Type 0} (S : Ghosts X) (n : ℕ) (r : Result (Answer X Bank) (Refused X F)) → mapped words_of (seen S (later n r)) ≡ counted n (mapped words_of (seen S r))
+seen_later S n (Ok a) = refl
+seen_later S n (Err e) = refl
 
-pub layer_made : {X V : Type 0} (S : Ghosts X) (ys : V → List ℤ) (r : Result (Answer X V) (Refused X NetworkFault)) (rule : Rule) (l : ℕ) (a : Activation) (xs : List ℤ) (ns : List Neuron) (s : State)
-    → length xs ≤ 64 → length ns ≤ 64 → mapped ys (seen S r) ≡ laid rule l a xs [] 0 ns s → steps_made r ≤ 118400
-layer_made S ys r rule l a xs ns s h k e =
-    let m : steps_made r ≡ steps_in (laid rule l a xs [] 0 ns s) = made_steps S r ∙ sym (mapped_steps ys (seen S r)) ∙ ap steps_in e in
+pub layer_made : {X : Type 0} (S : Ghosts X) (r : Result (Answer X Bank) (Refused X NetworkFault)) (rule : Rule) (l : ℕ) (a : Activation) (xs : List ℤ) (ns : List Neuron) (s : State)
+    → length xs ≤ 64 → length ns ≤ 64 → mapped words_of (seen S r) ≡ laid rule l a xs [] 0 ns s → steps_made r ≤ 118400
+layer_made S r rule l a xs ns s h k e =
+    let m : steps_made r ≡ steps_in (laid rule l a xs [] 0 ns s) = made_steps S r ∙ sym (mapped_steps words_of (seen S r)) ∙ ap steps_in e in
     let b = layer_short rule l (layer_of a) xs 0 ns s h in
     let c : steps_in (laid rule l a xs [] 0 ns s) ≤ 1850 * length ns = rw (mapped_steps (outs []) (layer rule l (layer_of a) xs 0 ns s)) b in
     omega arith
@@ -88,26 +90,26 @@ pub later_made : {X V F : Type 0} (n : ℕ) (r : Result (Answer X V) (Refused X 
 later_made n (Ok b) a e = let s : a ≡ record { unit = b.unit; value = b.value; steps = n + b.steps } = cc in rw s
 later_made n (Err f) a e = let z : ◌≡◌ {A = ℕ} 0 1 = cc in absurd (omega arith)
 
--- n steps made, xs the inputs of the layer h, s the state now; ys is what the layer put out
-module _ {X V : Type 0} (S : Ghosts X) (rule : Rule) (l n : ℕ) (hs ls : List LayerOf) (h : LayerOf) (xs : List ℤ) (s : State) {whole : Out (List ℤ) NetworkFault}
-    (inv : counted n (flown rule l hs xs s) ≡ whole) (are : hs ≡ h ∷ ls) (ys : V → List ℤ) (r : Result (Answer X V) (Refused X NetworkFault))
-    (e : mapped ys (seen S r) ≡ laid rule l h.activation xs [] 0 h.neurons s) where
+-- n steps made, xs the inputs of the layer h, s the state now
+module _ {X : Type 0} (S : Ghosts X) (rule : Rule) (l n : ℕ) (hs ls : List LayerOf) (h : LayerOf) (xs : List ℤ) (s : State) {whole : Out (List ℤ) NetworkFault}
+    (inv : counted n (flown rule l hs xs s) ≡ whole) (are : hs ≡ h ∷ ls) (r : Result (Answer X Bank) (Refused X NetworkFault))
+    (e : mapped words_of (seen S r) ≡ laid rule l h.activation xs [] 0 h.neurons s) where
   here : flown rule l hs xs s ≡ onward (flown rule (l + 1) ls) (laid rule l h.activation xs [] 0 h.neurons s)
   here = rw are (flown_more rule l h ls xs s)
 
-  pub flow_on : (a : Answer X V) → Ok a ≡ later n r → counted a.steps (flown rule (l + 1) ls (ys a.value) (state_of S a.unit.stage)) ≡ whole
-  flow_on a g = loop_on n _ inv (flown rule (l + 1) ls) _ here (ap (λ q. mapped ys (seen S q)) g ∙ seen_later S n ys r ∙ ap (counted n) e)
+  pub flow_on : (a : Answer X Bank) → Ok a ≡ later n r → counted a.steps (flown rule (l + 1) ls (words_of a.value) (state_of S a.unit.stage)) ≡ whole
+  flow_on a g = loop_on n _ inv (flown rule (l + 1) ls) _ here (ap (λ q. mapped words_of (seen S q)) g ∙ seen_later S n r ∙ ap (counted n) e)
 
   pub flow_halt : (f : Refused X NetworkFault) → Err f ≡ later n r → seen {V = List ℤ} S (Err f) ≡ whole
-  flow_halt f g = loop_halt n _ inv (flown rule (l + 1) ls) _ here (ap (λ q. mapped ys (seen S q)) g ∙ seen_later S n ys r ∙ ap (counted n) e)
+  flow_halt f g = loop_halt n _ inv (flown rule (l + 1) ls) _ here (ap (λ q. mapped words_of (seen S q)) g ∙ seen_later S n r ∙ ap (counted n) e)
 
-  pub flow_width : (a : Answer X V) → Ok a ≡ later n r → length (ys a.value) ≡ length h.neurons
+  pub flow_width : (a : Answer X Bank) → Ok a ≡ later n r → length (words_of a.value) ≡ length h.neurons
   flow_width a g = by r a g e
     where
-      by : (r : Result (Answer X V) (Refused X NetworkFault)) (a : Answer X V) → Ok a ≡ later n r → mapped ys (seen S r) ≡ laid rule l h.activation xs [] 0 h.neurons s → length (ys a.value) ≡ length h.neurons
+      by : (r : Result (Answer X Bank) (Refused X NetworkFault)) (a : Answer X Bank) → Ok a ≡ later n r → mapped words_of (seen S r) ≡ laid rule l h.activation xs [] 0 h.neurons s → length (words_of a.value) ≡ length h.neurons
       by (Ok b) a g e =
           let v : a ≡ record { unit = b.unit; value = b.value; steps = n + b.steps } = cc in
-          rw v (laid_width rule l h.activation xs h.neurons s (ys b.value) b.steps (state_of S b.unit.stage) e)
+          rw v (laid_width rule l h.activation xs h.neurons s (words_of b.value) b.steps (state_of S b.unit.stage) e)
       by (Err f) a g e = let z : ◌≡◌ {A = ℕ} 0 1 = cc in absurd (omega arith)
 
 pub flow_done : (rule : Rule) (l n : ℕ) (hs : List LayerOf) (xs : List ℤ) (s : State) {whole : Out (List ℤ) NetworkFault} → counted n (flown rule l hs xs s) ≡ whole → hs ≡ [] → went xs n s ≡ whole
@@ -147,6 +149,10 @@ length_neurons j i (n ∷ ns) a =
     let w = length_weights 0 n.weights in
     let e : length n.weights ≡ i = a.0 in
     omega arith
+  where
+    length_weights : (i : ℕ) (ws : List ℤ) → length (weight_records i ws) ≡ length ws
+    length_weights i [] = refl
+    length_weights i (w ∷ ws) = ap suc (length_weights (i + 1) ws)
 
 ahead_length : (rs : List Record) (neurons inputs : ℕ) (ns : List Neuron) (ls : List LayerOf) → Ahead rs 0 neurons inputs ns ls → length (neuron_records 0 ns) ≡ neurons * (inputs + 1)
 ahead_length rs neurons inputs ns ls a = length_neurons 0 inputs ns a.full ∙ ap (λ n. n * (inputs + 1)) (sym (zero-add (length ns)) ∙ a.count)

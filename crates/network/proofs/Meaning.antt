@@ -1,5 +1,5 @@
 -- What every run means, accepted or refused: the checks, the plan, the arithmetic and the bounds put together.
-use Rattle.std.proofs.Common.{◌≡◌, ℕ, ◌<◌, List, length, ℤ, Some, Ok, sym, refl, ap, ◌∙◌}
+use Rattle.std.proofs.Common.{◌≡◌, ℕ, ◌<◌, List, map, length, ℤ, Some, None, Ok, Option, sym, refl, ap, ◌∙◌, subst}
 use Rattle.std.proofs.lemmas.List.{length-map}
 use Rattle.cordic.specs.Outcome.{State, Out, went, stopped}
 use Rattle.network.specs.Neuron.{Working}
@@ -11,9 +11,10 @@ use Rattle.network.specs.declared.faults.Located.{Located}
 use Rattle.network.specs.declared.faults.NetworkFault.{NetworkFault}
 use Rattle.network.specs.declared.faults.NetworkFault.TheVariants.{NoSample, SampleCount, PlanLength, PlanRecord, Arithmetic, Places}
 use Rattle.network.proofs.Parts.{no}
-use Rattle.network.proofs.Checks.{Entered, entering, explained_by, barring, inner}
+use Rattle.network.proofs.Checks.{explained_by, barring, inner}
 use Rattle.network.proofs.Encoding.{plan_describes}
 use Rattle.network.proofs.Planning.{plan_shaped}
+use Rattle.network.proofs.Placing.{Accepts, accepting}
 use Rattle.network.proofs.Sampling.{words_are}
 use Rattle.network.proofs.Firing.{runs, stops}
 use Rattle.std.specs.List.{AllByRecursion as All}
@@ -38,12 +39,12 @@ stop_means f (Arithmetic l) n s e = in_layers f l n s e
 
 go_means : (f : Feed) (w : List (List Working)) (n : ℕ) (s : State) → All (λ b. b < 256) f.plan → recurrence f ≡ went w n s → Accepted f w n
 go_means f w n s b e =
-    let q = entering f w n s e in
-    let hs = q.0 in
-    let xs = q.1 in
-    let t : Entered f hs xs = q.2 in
-    let c = runs f.rule hs xs f.state (plan_shaped f.plan hs t.plan).0 (wide f hs xs t.samples t.count) w n s (sym t.goes ∙ e) in
-    (hs, xs, plan_describes f.plan hs b t.plan, words_are 0 f.samples xs t.samples, c.0, c.1)
+    let a = accepting f w n s e in
+    let hs = a.0 in
+    let xs = a.1 in
+    let k : Accepts f w n s hs xs = a.2 in
+    let c = runs f.rule hs xs f.state (plan_shaped f.plan hs k.plan).0 (wide f hs xs k.samples k.count) w n s k.layered in
+    (hs, xs, plan_describes f.plan hs b k.plan, k.yields, c.0, c.1)
 
 by_out : (f : Feed) (o : Out (List (List Working)) NetworkFault) → All (λ b. b < 256) f.plan → recurrence f ≡ o → Explains f o
 by_out f (went w n s) b e = go_means f w n s b e

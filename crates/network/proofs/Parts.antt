@@ -21,6 +21,10 @@ pub mapped_stopped : {V W F : Type 0} (g : V → W) (o : Out V F) (f : F) (n : �
 mapped_stopped g (went v m u) f n s e = no (cc)
 mapped_stopped g (stopped x m u) f n s e = cc
 
+pub inside_went : {V W F : Type 0} (g : F → ℕ → W) (o : Out V F) (v : V) (n : ℕ) (s : State) → inside g o ≡ went v n s → o ≡ went v n s
+inside_went g (went x m u) v n s e = cc
+inside_went g (stopped f m u) v n s e = no (cc)
+
 pub inside_stopped : {V W F : Type 0} (g : F → ℕ → W) (o : Out V F) (w : W) (n : ℕ) (s : State) → inside g o ≡ stopped w n s → (f : F) × (o ≡ stopped f n s) × (w ≡ g f n)
 inside_stopped g (went x m u) w n s e = no (cc)
 inside_stopped g (stopped f m u) w n s e = (f, cc, cc)

@@ -1,5 +1,5 @@
 -- What a result, handed on with its place and the steps before it, comes to.
-use Rattle.std.proofs.Common.{◌≡◌, ℕ, ◌+◌, Ok, Err, Result, arith}
+use Rattle.std.proofs.Common.{◌≡◌, ℕ, ◌+◌, Ok, Err, Result, refl, arith}
 use Rattle.stage.specs.declared.stage.Stage.{Ghosts}
 use Rattle.cordic.specs.Outcome.{counted, inside}
 use Rattle.cordic.specs.Seen.{seen}
@@ -7,6 +7,10 @@ use Rattle.cordic.specs.declared.states.Answer.{Answer}
 use Rattle.cordic.specs.declared.states.Refused.{Refused}
 use Rattle.network.specs.Placing.{steps_made, later, placed, raised}
 use Rattle.network.specs.declared.site.Within.{Within}
+
+pub later_steps : {X V F : Type 0} (n : ℕ) (r : Result (Answer X V) (Refused X F)) → steps_made (later n r) ≡ n + steps_made r
+later_steps n (Ok a) = refl
+later_steps n (Err e) = refl
 
 module _ {X P V F : Type 0} (p : P) (n : ℕ) where
   steps_by : (r : Result (Answer X V) (Refused X F)) (a : Answer X V) → Ok a ≡ placed p (later n r) → a.steps ≡ n + steps_made r

@@ -4,9 +4,9 @@ use Rattle.std.proofs.lemmas.Bool.{cases_order}
 use Rattle.network.specs.declared.record.Record.{Record}
 use Rattle.network.specs.declared.next.Next.TheVariants.{Layer}
 use Rattle.network.specs.declared.faults.NetworkFault.{NetworkFault}
-use Rattle.network.specs.declared.faults.NetworkFault.TheVariants.{PlanLength, PlanRecord}
+use Rattle.network.specs.declared.faults.NetworkFault.TheVariants.{NoSample, SampleCount, PlanLength, PlanRecord, Arithmetic, Places}
 use Rattle.network.specs.Plan.{LayerOf, Tail, records, parse, described, has_bad_length, plan_of}
-use Rattle.network.specs.Network.{layer_records, Shaped, BreaksAt}
+use Rattle.network.specs.Network.{layer_records, Shaped, Begins, BreaksAt}
 use Rattle.network.proofs.Parts.{no}
 use Rattle.network.proofs.Law.{Chain, describes}
 use Rattle.network.proofs.Shapes.{chain_shaped}
@@ -30,6 +30,20 @@ fault_by false (Err p) why e = inr (p, refl, cc)
 pub plan_fault : (bs : List ℕ) (why : NetworkFault) → plan_of bs ≡ Err why → ((has_bad_length (length bs) ≡ true) × (why ≡ PlanLength)) ⊎ ((p : ℕ) × (has_bad_length (length bs) ≡ false) × (why ≡ PlanRecord p))
 unfolding plan_of
 plan_fault bs why e = fault_by (has_bad_length (length bs)) (parse (Layer 0 4) 0 (records bs)) why e
+
+fault_only : (b : Bool) (why : NetworkFault) → ((b ≡ true) × (why ≡ PlanLength)) ⊎ ((p : ℕ) × (b ≡ false) × (why ≡ PlanRecord p)) → (why ≡ PlanLength) ⊎ ((p : ℕ) × (why ≡ PlanRecord p))
+fault_only b why (inl h) = inl h.1
+fault_only b why (inr h) = inr (h.0, h.2)
+
+pub plan_only : (bs : List ℕ) (why : NetworkFault) → plan_of bs ≡ Err why → (why ≡ PlanLength) ⊎ ((p : ℕ) × (why ≡ PlanRecord p))
+plan_only bs why e = fault_only (has_bad_length (length bs)) why (plan_fault bs why e)
+
+long_by : (b : Bool) → ((b ≡ true) × (◌≡◌ {A = NetworkFault} PlanLength PlanLength)) ⊎ ((p : ℕ) × (b ≡ false) × (PlanLength ≡ PlanRecord p)) → b ≡ true
+long_by b (inl h) = h.0
+long_by b (inr h) = let k = h.2 in no (cc)
+
+pub plan_long : (bs : List ℕ) → plan_of bs ≡ Err PlanLength → has_bad_length (length bs) ≡ true
+plan_long bs e = long_by (has_bad_length (length bs)) (plan_fault bs PlanLength e)
 
 pub long_plan : (bs : List ℕ) → has_bad_length (length bs) ≡ true → plan_of bs ≡ Err PlanLength
 unfolding plan_of

@@ -21,7 +21,7 @@ neuron_more i rs bias bank left r rest n e h =
       after = ap (drop 1) (sym e ∙ n.after) ∙ drop-drop 1 (i + 1) rs;
     }
 
-pub length_weights : (i : ℕ) (ws : List ℤ) → length (weight_records i ws) ≡ length ws
+length_weights : (i : ℕ) (ws : List ℤ) → length (weight_records i ws) ≡ length ws
 length_weights i [] = refl
 length_weights i (w ∷ ws) = ap suc (length_weights (i + 1) ws)
 

@@ -1,5 +1,5 @@
 -- What the checks before the arithmetic give back, against the recurrence of a run.
-use Rattle.std.specs.Prelude.{◌≡◌, ◌≤◌, length, Ok, Err, Result}
+use Rattle.std.specs.Prelude.{◌≡◌, ℕ, ◌≤◌, length, Ok, Err, Result}
 use Rattle.cordic.specs.Outcome.{stopped}
 use Rattle.network.specs.Bank.{words_of}
 use Rattle.network.specs.Network.{Describes}
@@ -15,7 +15,6 @@ pub record Admitted (f : Feed) (inputs : Bank) : Type 0 where
   pub room : exits (layers_of f.plan) ≤ length f.places
   pub goes : recurrence f ≡ layers f.rule 0 (layers_of f.plan) (words_of inputs) f.state
 
--- and the bank holds them
-abbrev pub Admits : Feed → Bank → Result (Unit {0}) NetworkFault → Type 0
-Admits f inputs (Ok _) = Admitted f inputs
-Admits f inputs (Err why) = recurrence f ≡ stopped why 0 f.state
+abbrev pub Admits : Feed → Result Bank NetworkFault → Type 0
+Admits f (Ok inputs) = Admitted f inputs
+Admits f (Err why) = recurrence f ≡ stopped why 0 f.state

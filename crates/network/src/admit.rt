@@ -9,14 +9,13 @@ use super::gather::gather;
 use super::plan::Plan;
 use super::sample::Sample;
 
-// Puts the inputs of the first layer into the bank, or gives the first check that fails.
+// The inputs of the first layer, or the first check that fails.
 pub(crate) fn admit<P: Sample>(
     bytes: &[u8],
     samples: &[P],
     places: usize,
-    inputs: &mut Bank,
-) -> Result<(), NetworkFault>
-    ensures answer { (f : Feed) → f.plan ≡ bytes.now → f.samples ≡ map P.Sample.yields samples.now → length f.places ≡ places → Admits f inputs.new result }
+) -> Result<Bank, NetworkFault>
+    ensures answer { (f : Feed) → f.plan ≡ bytes.now → f.samples ≡ map P.Sample.yields samples.now → length f.places ≡ places → Admits f result }
 {
     let plan = Plan::decode(bytes)?;
     if places < plan.outputs() {
@@ -25,8 +24,8 @@ pub(crate) fn admit<P: Sample>(
     if samples.len() != plan.inputs() {
         return Err(NetworkFault::SampleCount);
     }
-    match gather(samples, inputs) {
-        Ok(()) => Ok(()),
+    match gather(samples) {
+        Ok(bank) => Ok(bank),
         Err(position) => Err(NetworkFault::NoSample { position }),
     }
 }

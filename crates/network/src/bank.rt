@@ -19,20 +19,17 @@ impl Bank {
         }
     }
 
-    pub(crate) fn clear(&mut self)
-        ensures count { self.new.used ≡ 0 }
-        ensures listed { take self.new.used self.new.words ≡ [] }
+    pub(crate) fn push(self, word: i32) -> Bank
+        requires { self.used < 64 }
+        ensures count { result.used ≡ self.used + 1 }
+        ensures listed { take result.used result.words ≡ take self.used self.words ++ word ∷ [] }
     {
-        self.used = 0;
-    }
-
-    pub(crate) fn push(&mut self, word: i32)
-        requires { self.old.used < 64 }
-        ensures count { self.new.used ≡ self.old.used + 1 }
-        ensures listed { take self.new.used self.new.words ≡ take self.old.used self.old.words ++ word ∷ [] }
-    {
-        self.words[self.used] = word;
-        self.used += 1;
+        let mut words = self.words;
+        words[self.used] = word;
+        Bank {
+            words,
+            used: self.used + 1,
+        }
     }
 
     // The first words of `out` become those of the bank; later ones keep what they held.

@@ -26,22 +26,20 @@ pub(crate) struct Head {
     pub neurons: u16,
 }
 
-// Puts the outputs of a layer, whose neurons these bytes begin with, into the bank.
+// The outputs of a layer whose neurons these bytes begin with.
 pub(crate) fn run_layer<S: Stage>(
     unit: Idle<S>,
     head: Head,
     bytes: &[u8],
     inputs: &[i32],
-    outputs: &mut Bank,
-) -> Result<Answer<S, ()>, Refused<S, NetworkFault>>
+) -> Result<Answer<S, Bank>, Refused<S, NetworkFault>>
     requires { (((ns : List Neuron) × (ls : List LayerOf) × Ahead (records bytes.now) 0 head.neurons (length inputs.now) ns ls)) × (head.neurons ≤ 64) }
-    ensures answer { (ns : List Neuron) (ls : List LayerOf) → Ahead (records bytes.now) 0 head.neurons (length inputs.now) ns ls → mapped (λ _. words_of outputs.new) (seen S.Stage result) ≡ laid S.Stage.rule head.number head.activation inputs.now [] 0 ns (state_of S.Stage unit.stage) }
+    ensures answer { (ns : List Neuron) (ls : List LayerOf) → Ahead (records bytes.now) 0 head.neurons (length inputs.now) ns ls → mapped words_of (seen S.Stage result) ≡ laid S.Stage.rule head.number head.activation inputs.now [] 0 ns (state_of S.Stage unit.stage) }
 {
-    outputs.clear();
     let mut weights = [0; 64];
     let mut answer = Answer {
         unit,
-        value: (),
+        value: Bank::new(),
         steps: 0,
     };
     let mut rest = bytes;
@@ -52,15 +50,23 @@ pub(crate) fn run_layer<S: Stage>(
             layer: head.number,
             neuron: neuron as u32,
         };
-        let read = &weights[0..inputs.len()];
-        let fired = fire(unit, head.activation, inputs, bias, read);
+        let fired = fire(
+            unit,
+            head.activation,
+            inputs,
+            bias,
+            &weights[0..inputs.len()],
+        );
         let Answer {
             unit,
             value: output,
             steps,
         } = placed(later(fired, steps), site)?;
-        outputs.push(output);
-        answer = Answer { unit, value, steps };
+        answer = Answer {
+            unit,
+            value: value.push(output),
+            steps,
+        };
         rest = tail;
     }
     Ok(answer)

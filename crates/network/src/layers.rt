@@ -37,19 +37,18 @@ fn after_neurons(bytes: &[u8], neurons: usize, inputs: usize) -> &[u8]
     &bytes[size..]
 }
 
-// From the inputs of the first layer, which the bank holds, to the outputs of the last.
+// The outputs of the last layer.
 pub(crate) fn run_layers<S: Stage>(
     unit: Idle<S>,
     plan: &[u8],
-    bank: &mut Bank,
-) -> Result<Answer<S, ()>, Refused<S, NetworkFault>>
-    requires { (Describes (layers_of plan.now) plan.now) × (length (words_of bank.old) ≡ entrance (layers_of plan.now)) }
-    ensures answer { mapped (λ _. words_of bank.new) (seen S.Stage result) ≡ flown S.Stage.rule 0 (layers_of plan.now) (words_of bank.old) (state_of S.Stage unit.stage) }
+    inputs: Bank,
+) -> Result<Answer<S, Bank>, Refused<S, NetworkFault>>
+    requires { (Describes (layers_of plan.now) plan.now) × (length (words_of inputs) ≡ entrance (layers_of plan.now)) }
+    ensures answer { mapped words_of (seen S.Stage result) ≡ flown S.Stage.rule 0 (layers_of plan.now) (words_of inputs) (state_of S.Stage unit.stage) }
 {
-    let mut outputs = Bank::new();
     let mut answer = Answer {
         unit,
-        value: (),
+        value: inputs,
         steps: 0,
     };
     let mut number: u32 = 0;
@@ -61,10 +60,8 @@ pub(crate) fn run_layers<S: Stage>(
             activation: activation_of(head.flag),
             neurons: head.index,
         };
-        rest = after_neurons(tail, head.index as usize, bank.len());
-        let made = run_layer(unit, opened, tail, bank.words(), &mut outputs);
-        answer = later(made, steps)?;
-        *bank = outputs;
+        rest = after_neurons(tail, head.index as usize, value.len());
+        answer = later(run_layer(unit, opened, tail, value.words()), steps)?;
         number += 1;
     }
     Ok(answer)

@@ -1,4 +1,6 @@
 // Networks of neurons over any stage and any kind of sample: plans, samples and the run.
+#![tactic(auto)]
+
 mod activation;
 mod admit;
 mod bank;

@@ -6,7 +6,6 @@ ghost use Rattle.network.specs.Run.{recurrence, outputs, written};
 ghost use Rattle.network.specs.Seen.{feed_of, attempted, seen_by};
 
 use super::admit::admit;
-use super::bank::Bank;
 use super::faults::NetworkFault;
 use super::layers::run_layers;
 use super::ran::Ran;
@@ -25,23 +24,21 @@ fn attempt<S: Stage, P: Sample>(
     ensures within { IfOk result (λ a. a.value ≤ length out.new) }
     ensures lent { out.new ≡ written (recurrence (feed_of S.Stage P.Sample plan.now samples.now out.old unit.stage)) out.old }
 {
-    let mut bank = Bank::new();
-    if let Err(fault) = admit(plan, samples, out.len(), &mut bank) {
-        return Err(Refused {
-            unit,
-            fault,
-            steps: 0,
-        });
-    }
-    let Answer {
-        unit,
-        value: _,
-        steps,
-    } = run_layers(unit, plan, &mut bank)?;
-    bank.deliver(out);
+    let inputs = match admit(plan, samples, out.len()) {
+        Ok(bank) => bank,
+        Err(fault) => {
+            return Err(Refused {
+                unit,
+                fault,
+                steps: 0,
+            });
+        }
+    };
+    let Answer { unit, value, steps } = run_layers(unit, plan, inputs)?;
+    value.deliver(out);
     Ok(Answer {
         unit,
-        value: bank.len(),
+        value: value.len(),
         steps,
     })
 }

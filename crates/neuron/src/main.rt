@@ -1,4 +1,6 @@
 // The program `neuron`: runs the plan in `plan.bin` on the sample records of standard input.
+#![tactic(auto)]
+
 mod fields;
 mod input;
 mod outputs;

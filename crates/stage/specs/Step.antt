@@ -4,9 +4,8 @@
 --   turned    the three new registers
 --   escaped   the first register outside the word
 --   stepped   what a step comes to
---   settled   the same, from the three new registers where each is a word, and before the old triple is put to the refusal
---   keeping   the old triple beside the register that a refusal names
-use Rattle.std.specs.Prelude.{cond, ℤ, pos, ◌+ℤ◌, ◌-ℤ◌, neg_ℤ, Some, None, Ok, Err, Option, Result}
+--   settled   the same, from the three new registers where each is a word
+use Rattle.std.specs.Prelude.{Bool, true, false, cond, ℤ, pos, ◌+ℤ◌, ◌-ℤ◌, neg_ℤ, Some, None, Ok, Err, Option, Result}
 use Rattle.stage.specs.Word.{shifted, is_word}
 use Rattle.stage.specs.declared.registers.Triple.{Triple}
 use Rattle.stage.specs.declared.registers.Register.{Register}
@@ -49,14 +48,9 @@ judged old new (Some r) = Err (record { register = r; kept = old })
 unfoldable pub stepped : Step → Triple → Result Triple Overflow
 stepped s t = judged t (turned s t) (escaped (turned s t))
 
--- how a stage finds that out: each new register, if it is a word; the first that is none is named
-abbrev pub settled : Option ℤ → Option ℤ → Option ℤ → Result Triple Register
-settled None y z = Err X
-settled (Some x) None z = Err Y
-settled (Some x) (Some y) None = Err Z
-settled (Some x) (Some y) (Some z) = Ok (record { x = x; y = y; z = z })
-
--- and keeps the old triple then
-abbrev pub keeping : Triple → Result Triple Register → Result Triple Overflow
-keeping old (Ok new) = Ok new
-keeping old (Err r) = Err (record { register = r; kept = old })
+-- how a stage finds that out: each new register, if it is a word
+abbrev pub settled : Triple → Option ℤ → Option ℤ → Option ℤ → Result Triple Overflow
+settled old None y z = Err (record { register = X; kept = old })
+settled old (Some x) None z = Err (record { register = Y; kept = old })
+settled old (Some x) (Some y) None = Err (record { register = Z; kept = old })
+settled old (Some x) (Some y) (Some z) = Ok (record { x = x; y = y; z = z })

@@ -48,16 +48,8 @@ impl Stage for BitSerial {
     }
 
     fn step(&mut self, s: Step) -> Result<(), Overflow> {
-        match advance::<1, { Self::TICKS }>(self.held, s) {
-            Ok(new) => {
-                self.held = Bits::of(new);
-                Ok(())
-            }
-            Err(register) => Err(Overflow {
-                register,
-                kept: self.read(),
-            }),
-        }
+        self.held = Bits::of(advance::<1, { Self::TICKS }>(self.held, s)?);
+        Ok(())
     }
 
     fn read(&self) -> Triple {

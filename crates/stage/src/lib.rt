@@ -1,4 +1,6 @@
 // A stage: three registers, the shift-and-add step, and the kinds of hardware that make it.
+#![tactic(auto)]
+
 mod adder;
 mod bit_serial;
 mod bits;

@@ -1,5 +1,5 @@
 // A log: up to 64 triples, in order. A stage has no place for a want of memory, so it is as large as any order of steps needs.
-ghost use Rattle.std.specs.Prelude.{◌≡◌, ◌≤◌, [], length, take};
+ghost use Rattle.std.specs.Prelude.{◌≡◌, ◌≤◌, [], take};
 ghost use Rattle.stage.specs.Recorder.{appended};
 
 use super::registers::Triple;
@@ -9,7 +9,6 @@ pub struct Log {
     kept: [Triple; 64],
     used: usize,
     ghost few: { used ≤ 64 },
-    ghost size: { length kept ≡ 64 },
 }
 
 impl Log {
@@ -22,19 +21,18 @@ impl Log {
         }
     }
 
-    pub(crate) fn clear(&mut self)
-        ensures answer { take self.new.used self.new.kept ≡ [] }
-    {
-        self.used = 0;
-    }
-
     // One triple more; a full log stays as it is.
-    pub(crate) fn push(&mut self, t: Triple)
-        ensures answer { take self.new.used self.new.kept ≡ appended (take self.old.used self.old.kept) t }
+    pub(crate) fn push(self, t: Triple) -> Log
+        ensures answer { take result.used result.kept ≡ appended (take self.used self.kept) t }
     {
-        if self.used < 64 {
-            self.kept[self.used] = t;
-            self.used += 1;
+        if self.used >= 64 {
+            return self;
+        }
+        let mut kept = self.kept;
+        kept[self.used] = t;
+        Log {
+            kept,
+            used: self.used + 1,
         }
     }
 

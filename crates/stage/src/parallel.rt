@@ -1,11 +1,11 @@
 // The parallel stage: word arithmetic, one step in one tick.
 ghost use Rattle.std.specs.Prelude.{◌≡◌, [], ◌+ℤ◌, ◌-ℤ◌};
 ghost use Rattle.stage.specs.Word.{shifted, in_word};
-ghost use Rattle.stage.specs.Step.{signed, turned, stepped, keeping};
+ghost use Rattle.stage.specs.Step.{signed, scaled, turned, stepped};
 ghost use Rattle.stage.specs.Stage.{zeros, silent};
 ghost use Rattle.std.proofs.Common.{rules};
 
-use super::registers::{Register, Triple};
+use super::registers::Triple;
 use super::settle::settle;
 use super::shift::Shift;
 use super::stage::Stage;
@@ -67,11 +67,11 @@ fn next_z(t: Triple, s: Step) -> Option<i32>
     subtract(t.z, s.entry, s.direction)
 }
 
-// All three registers from the old values, or the first that would leave the word.
-fn advance(t: Triple, s: Step) -> Result<Triple, Register>
-    ensures answer { keeping t result ≡ stepped s t }
+// All three registers from the old values.
+fn advance(t: Triple, s: Step) -> Result<Triple, Overflow>
+    ensures answer { result ≡ stepped s t }
 {
-    settle(next_x(t, s), next_y(t, s), next_z(t, s))
+    settle(t, next_x(t, s), next_y(t, s), next_z(t, s))
 }
 
 #[derive(Drop)]
@@ -112,16 +112,8 @@ impl Stage for Parallel {
     }
 
     fn step(&mut self, s: Step) -> Result<(), Overflow> {
-        match advance(self.held, s) {
-            Ok(new) => {
-                self.held = new;
-                Ok(())
-            }
-            Err(register) => Err(Overflow {
-                register,
-                kept: self.held,
-            }),
-        }
+        self.held = advance(self.held, s)?;
+        Ok(())
     }
 
     fn read(&self) -> Triple {

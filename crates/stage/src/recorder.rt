@@ -62,12 +62,12 @@ impl<S: Stage> Stage for Recorder<S> {
 
     fn load(&mut self, t: Triple) {
         self.below.load(t);
-        self.log.clear();
+        self.log = Log::new();
     }
 
     fn step(&mut self, s: Step) -> Result<(), Overflow> {
         self.below.step(s)?;
-        self.log.push(self.below.read());
+        self.log = self.log.push(self.below.read());
         Ok(())
     }
 

@@ -3,17 +3,17 @@ ghost use Rattle.std.specs.Prelude.{◌≡◌, ◌+ℤ◌, ◌-ℤ◌};
 ghost use Rattle.std.proofs.Common.{to_z};
 ghost use Rattle.std.specs.Int.{w32};
 ghost use Rattle.stage.specs.Word.{shifted, in_word};
-ghost use Rattle.stage.specs.Step.{signed, turned, stepped, keeping};
+ghost use Rattle.stage.specs.Step.{signed, turned, stepped};
 ghost use Rattle.stage.specs.Adder.{Digits};
 ghost use Rattle.stage.specs.Bits.{triple_of, bits_in};
 
 use super::adder::add_serially;
 use super::bits::Bits;
 use super::operand::Operand;
-use super::registers::{Register, Triple};
+use super::registers::Triple;
 use super::settle::settle;
 use super::shift::Shift;
-use super::step::{Direction, Step, System};
+use super::step::{Direction, Overflow, Step, System};
 
 // The three registers with their signs, before the step.
 #[derive(Clone, Copy)]
@@ -81,13 +81,14 @@ fn next_z<const K: u32, const N: u32>(o: Operands, s: Step) -> Option<i32>
     subtract::<K, N>(o.z.bits, entry, Shift::none(), s.direction)
 }
 
-// All three registers from the old values, or the first that would leave the word.
-pub(crate) fn advance<const K: u32, const N: u32>(r: Bits, s: Step) -> Result<Triple, Register>
+// All three registers from the old values.
+pub(crate) fn advance<const K: u32, const N: u32>(r: Bits, s: Step) -> Result<Triple, Overflow>
     requires { Digits K N }
-    ensures answer { keeping (triple_of r) result ≡ stepped s (triple_of r) }
+    ensures answer { result ≡ stepped s (triple_of r) }
 {
     let o = save(r);
     settle(
+        r.triple(),
         next_x::<K, N>(o, s),
         next_y::<K, N>(o, s),
         next_z::<K, N>(o, s),

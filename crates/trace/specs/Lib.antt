@@ -4,4 +4,3 @@ pub mod Figures
 pub mod Request
 pub mod Reader
 pub mod Marks
-pub mod Csv

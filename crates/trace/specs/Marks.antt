@@ -11,7 +11,7 @@ use Rattle.trace.specs.declared.report.Mark.TheVariants.{Blank, Start, Step, End
 abbrev pub mark_label : Mark → List ℕ
 mark_label Blank = []
 mark_label Start = codes "start"
-mark_label (Step step) = []
+mark_label (Step number shift entry direction) = []
 mark_label End = codes "result"
 mark_label Kept = codes "kept"
 mark_label Before = codes "before"

@@ -13,7 +13,6 @@ use Rattle.stage.specs.Word.{in_word}
 use Rattle.trace.specs.Names.{named, system_names, mode_names, kind_names}
 use Rattle.trace.specs.declared.names.Kind.{Kind}
 use Rattle.trace.specs.declared.names.Kind.TheVariants.{Parallel}
-use Rattle.trace.specs.declared.request.Format.TheVariants.{Table, Csv as AsCsv}
 use Rattle.trace.specs.declared.request.Request.{Request}
 use Rattle.trace.specs.declared.request.Wanted.{Wanted}
 use Rattle.trace.specs.declared.request.Wanted.TheVariants.{System as ASystem, Mode as AMode, X as AnX, Y as AY, Z as AZ, Kind as AKind, Setting}
@@ -25,7 +24,7 @@ use Rattle.trace.specs.declared.reader.Progress.{Progress}
 use Rattle.trace.specs.declared.reader.Progress.TheVariants.{Empty, ToSystem, ToMode, ToX, ToY, Full}
 use Rattle.trace.specs.declared.reader.Draft.{Draft}
 use Rattle.trace.specs.declared.reader.Token.{Token}
-use Rattle.trace.specs.declared.reader.Token.TheVariants.{Probe, Csv, Stage, Unknown, Plain}
+use Rattle.trace.specs.declared.reader.Token.TheVariants.{Probe, Stage, Unknown, Plain}
 
 -- one digit or more, and nothing else
 abbrev pub numeral : List ℕ → Bool
@@ -53,45 +52,40 @@ abbrev pub dashed : List ℕ → Bool
 dashed word = slice_index word 0 == 45 && slice_index word 1 == 45
 
 abbrev pub blank : Draft
-blank = record { progress = Empty; kind = Some Parallel; probe = false; format = Table }
+blank = record { progress = Empty; kind = Some Parallel; probe = false }
 
 -- the word after --stage
 abbrev pub chosen_in : Draft → List ℕ → Result Draft Misfit
-chosen_in d word = or_not AKind (λ k. record { progress = d.progress; kind = Some k; probe = d.probe; format = d.format }) (named kind_names word)
+chosen_in d word = or_not AKind (λ k. record { progress = d.progress; kind = Some k; probe = d.probe }) (named kind_names word)
 
 abbrev pub advanced : Draft → Result Progress Misfit → Result Draft Misfit
-advanced d (Ok p) = Ok (record { progress = p; kind = d.kind; probe = d.probe; format = d.format })
+advanced d (Ok p) = Ok (record { progress = p; kind = d.kind; probe = d.probe })
 advanced d (Err m) = Err m
 
 abbrev pub token_in : List ℕ → Token
-token_in word =
-    cond (bytes_eq word (codes "--probe")) Probe
-    (cond (bytes_eq word (codes "--csv")) Csv
-    (cond (bytes_eq word (codes "--stage")) Stage
-    (cond (dashed word) Unknown Plain)))
+token_in word = cond (bytes_eq word (codes "--probe")) Probe (cond (bytes_eq word (codes "--stage")) Stage (cond (dashed word) Unknown Plain))
 
 abbrev pub taken_by : Draft → List ℕ → Option Kind → Token → Result Draft Misfit
 taken_by d word None token = chosen_in d word
-taken_by d word (Some k) Probe = Ok (record { progress = d.progress; kind = Some k; probe = true; format = d.format })
-taken_by d word (Some k) Csv = Ok (record { progress = d.progress; kind = Some k; probe = d.probe; format = AsCsv })
-taken_by d word (Some k) Stage = Ok (record { progress = d.progress; kind = None; probe = d.probe; format = d.format })
+taken_by d word (Some k) Probe = Ok (record { progress = d.progress; kind = Some k; probe = true })
+taken_by d word (Some k) Stage = Ok (record { progress = d.progress; kind = None; probe = d.probe })
 taken_by d word (Some k) Unknown = Err (Not Setting)
 taken_by d word (Some k) Plain = advanced d (put_in d.progress word)
 
 abbrev pub taken_in : Draft → List ℕ → Result Draft Misfit
 taken_in d word = taken_by d word d.kind (token_in word)
 
-abbrev pub finished_by : Draft → Option Kind → Progress → Result Request Wanted
-finished_by d None p = Err AKind
-finished_by d (Some k) Empty = Err ASystem
-finished_by d (Some k) (ToSystem s) = Err AMode
-finished_by d (Some k) (ToMode s m) = Err AnX
-finished_by d (Some k) (ToX s m x) = Err AY
-finished_by d (Some k) (ToY s m x y) = Err AZ
-finished_by d (Some k) (Full s m t) = Ok (record { system = s; mode = m; start = t; kind = k; probe = d.probe; format = d.format })
+abbrev pub finished_by : Bool → Option Kind → Progress → Result Request Wanted
+finished_by probe None p = Err AKind
+finished_by probe (Some k) Empty = Err ASystem
+finished_by probe (Some k) (ToSystem s) = Err AMode
+finished_by probe (Some k) (ToMode s m) = Err AnX
+finished_by probe (Some k) (ToX s m x) = Err AY
+finished_by probe (Some k) (ToY s m x y) = Err AZ
+finished_by probe (Some k) (Full s m t) = Ok (record { system = s; mode = m; start = t; kind = k; probe = probe })
 
 abbrev pub finished : Draft → Result Request Wanted
-finished d = finished_by d d.kind d.progress
+finished d = finished_by d.probe d.kind d.progress
 
 abbrev pub asks_for_help : List ℕ → Bool
 asks_for_help word = bytes_eq word (codes "--help") || bytes_eq word (codes "-h")

@@ -11,7 +11,6 @@ usage: trace [options] SYSTEM MODE X Y Z
 
   --stage KIND     the stage to run on: parallel (the default) or bit-serial
   --probe          put a probe around the stage and print what it holds
-  --csv            print the registers as comma-separated values
   --help, -h       print this text
 
 With no arguments the first line of standard input is read in their place.

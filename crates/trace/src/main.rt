@@ -1,11 +1,10 @@
 // The program `trace`: runs one request and prints every step of it.
-mod accepted;
-mod csv;
+#![tactic(auto)]
+
 mod figures;
 mod help;
 mod names;
 mod pass;
-mod printout;
 mod reader;
 mod report;
 mod request;

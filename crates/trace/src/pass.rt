@@ -1,8 +1,8 @@
 // Runs a request: the unit over a recorder around the chosen stage.
 ghost use Rattle.std.specs.Prelude.{◌≡◌, ◌*◌};
 
-use super::accepted::Accepted;
 use super::names::Kind;
+use super::report::{Mark, print_probe, print_refusal, print_result, print_title, print_triple};
 use super::request::Request;
 use cordic::{Answer, Circular, Coordinate, Hyperbolic, Idle, Linear, Refused};
 use stage::{BitSerial, Parallel, Probe, Recorder, Stage, System, Triple};
@@ -26,13 +26,13 @@ fn print_steps<C: Coordinate>(
         let Some(k) = system.at(i) else {
             break;
         };
-        let step = Accepted {
+        let mark = Mark::Step {
             number: i + 1,
             shift: k.shift.amount(),
             entry: k.entry,
             direction: request.mode.direction(before),
         };
-        request.format.print_step(out, step, *after)?;
+        print_triple(out, mark, *after)?;
         before = *after;
     }
     Ok(())
@@ -45,14 +45,13 @@ fn trace<S: Stage + Drop, C: Coordinate + Copy>(
     system: C,
     request: &Request,
 ) -> io::Result<S> {
-    request.format.print_start(out, request)?;
+    print_title(out, request)?;
+    print_triple(out, Mark::Start, request.start)?;
     match Idle::new(Recorder::new(stage)).pass(system, request.mode, request.start) {
         Ok(Answer { unit, value, steps }) => {
             let recorder = unit.into_stage();
             print_steps(out, &system, request, recorder.triples())?;
-            request
-                .format
-                .print_result(out, value, steps, ticks::<S>(steps))?;
+            print_result(out, value, steps, ticks::<S>(steps))?;
             Ok(recorder.into_inner())
         }
         Err(
@@ -64,7 +63,7 @@ fn trace<S: Stage + Drop, C: Coordinate + Copy>(
         ) => {
             let recorder = unit.into_stage();
             print_steps(out, &system, request, recorder.triples())?;
-            request.format.print_refusal(out, fault.report())?;
+            print_refusal(out, fault.report())?;
             Ok(recorder.into_inner())
         }
     }
@@ -81,9 +80,7 @@ fn print_on_stage<S: Stage + Drop, C: Coordinate + Copy>(
         return Ok(());
     }
     let probe = trace(out, Probe::new(stage), system, request)?;
-    request
-        .format
-        .print_probe(out, probe.accepted(), probe.before_latest())
+    print_probe(out, probe.accepted(), probe.before_latest())
 }
 
 fn print_in_system<C: Coordinate + Copy>(

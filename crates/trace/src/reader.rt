@@ -3,7 +3,7 @@ ghost use Rattle.std.specs.Prelude.{◌≡◌};
 ghost use Rattle.trace.specs.Reader.{number_in, put_in, dashed, token_in, blank, advanced, chosen_in, taken_in, finished, asks_for_help, help_in, Reads};
 
 use super::names::{Kind, kind_named, mode_named, system_named};
-use super::request::{Format, Misfit, Request, RequestFault, Wanted};
+use super::request::{Misfit, Request, RequestFault, Wanted};
 use cordic::Mode;
 use stage::{System, Triple};
 use std::alloc::Global;
@@ -62,7 +62,6 @@ struct Draft {
     progress: Progress,
     kind: Option<Kind>,
     probe: bool,
-    format: Format,
 }
 
 fn is_option(word: &str) -> bool
@@ -78,7 +77,6 @@ fn is_option(word: &str) -> bool
 #[derive(Clone, Copy)]
 enum Token {
     Probe,
-    Csv,
     Stage,
     Unknown,
     Plain,
@@ -89,7 +87,6 @@ fn judge(word: &str) -> Token
 {
     match word {
         "--probe" => Token::Probe,
-        "--csv" => Token::Csv,
         "--stage" => Token::Stage,
         _ => {
             if is_option(word) {
@@ -109,7 +106,6 @@ impl Draft {
             progress: Progress::Empty,
             kind: Some(Kind::Parallel),
             probe: false,
-            format: Format::Table,
         }
     }
 
@@ -123,10 +119,6 @@ impl Draft {
         match judge(word) {
             Token::Probe => Ok(Draft {
                 probe: true,
-                ..self
-            }),
-            Token::Csv => Ok(Draft {
-                format: Format::Csv,
                 ..self
             }),
             Token::Stage => Ok(Draft { kind: None, ..self }),
@@ -176,7 +168,6 @@ impl Draft {
                 start,
                 kind,
                 probe: self.probe,
-                format: self.format,
             }),
         }
     }

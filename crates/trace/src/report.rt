@@ -1,8 +1,7 @@
-// The printout as a table: rows of registers under their columns, and how a pass ended.
+// The printout: rows of registers under their columns, and how a pass ended.
 ghost use Rattle.std.specs.Prelude.{◌≡◌};
 ghost use Rattle.trace.specs.Marks.{mark_label, sign_code, sentence_of};
 
-use super::accepted::Accepted;
 use super::figures::Fraction;
 use super::names::{kind_name, mode_name, register_name, system_name};
 use super::request::Request;
@@ -15,7 +14,12 @@ use std::{fmt, io};
 pub enum Mark {
     Blank,
     Start,
-    Step(Accepted),
+    Step {
+        number: usize,
+        shift: u32,
+        entry: u32,
+        direction: Direction,
+    },
     End,
     Kept,
     Before,
@@ -37,7 +41,7 @@ impl Mark {
         match self {
             Mark::Blank => "",
             Mark::Start => "start",
-            Mark::Step(_) => "",
+            Mark::Step { .. } => "",
             Mark::End => "result",
             Mark::Kept => "kept",
             Mark::Before => "before",
@@ -47,14 +51,12 @@ impl Mark {
 
 impl fmt::Display for Mark {
     fn fmt<W: fmt::Write>(&self, f: &mut fmt::Formatter<W>) -> fmt::Result {
-        if let Mark::Step(
-            Accepted {
-                number,
-                shift,
-                entry,
-                direction,
-            },
-        ) = *self
+        if let Mark::Step {
+            number,
+            shift,
+            entry,
+            direction,
+        } = *self
         {
             let d = sign(direction);
             return write!(f, "{number:>6}  {shift:>5}  {entry:>9}  {d}  ");

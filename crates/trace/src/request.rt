@@ -9,13 +9,6 @@ use stage::{System, Triple};
 use std::alloc::AllocError;
 use std::fmt;
 
-// The formats of a printout.
-#[derive(Clone, Copy)]
-pub enum Format {
-    Table,
-    Csv,
-}
-
 #[derive(Clone, Copy)]
 pub struct Request {
     pub system: System,
@@ -23,7 +16,6 @@ pub struct Request {
     pub start: Triple,
     pub kind: Kind,
     pub probe: bool,
-    pub format: Format,
 }
 
 // What a word of a request should be.
@@ -61,7 +53,7 @@ impl Wanted {
             Wanted::Mode => "rotation, vectoring",
             Wanted::X | Wanted::Y | Wanted::Z => "-2147483648 to 2147483647",
             Wanted::Kind => "parallel, bit-serial",
-            Wanted::Setting => "--stage, --probe, --csv, --help",
+            Wanted::Setting => "--stage, --probe, --help",
         }
     }
 }

@@ -13,6 +13,6 @@ abbrev pub invariant-loop-neuron : goal.invariant-loop-neuron
 invariant-loop-neuron g l =
     ((all : List Neuron) (ls : List LayerOf) → Ahead (records l.bytes) 0 l.head.neurons (length l.inputs) all ls
     → (ns : List Neuron) × Ahead (records l.rest) l.neuron l.head.neurons (length l.inputs) ns ls
-    × (counted l.answer.steps (laid g.S.Stage.rule l.head.number l.head.activation l.inputs (words_of l.outputs) l.neuron ns (state_of g.S.Stage l.answer.unit.stage))
+    × (counted l.answer.steps (laid g.S.Stage.rule l.head.number l.head.activation l.inputs (words_of l.answer.value) l.neuron ns (state_of g.S.Stage l.answer.unit.stage))
     ≡ laid g.S.Stage.rule l.head.number l.head.activation l.inputs [] 0 all (state_of g.S.Stage l.initial.answer.unit.stage)))
-    × (l.outputs.used ≡ l.neuron) × (l.answer.steps ≤ 1850 * l.neuron) × (length l.weights ≡ 64)
+    × (l.answer.value.used ≡ l.neuron) × (l.answer.steps ≤ 1850 * l.neuron) × (length l.weights ≡ 64)

@@ -1,4 +1,4 @@
-use Rattle.std.proofs.Common.{◌≡◌, ◌+◌, ◌*◌, length, sym, ap, ◌∙◌, arith, rules}
+use Rattle.std.proofs.Common.{◌≡◌, ◌+◌, ◌*◌, ◌≤◌, length, sym, refl, ap, ◌∙◌, arith, rules}
 use Rattle.std.proofs.lemmas.List.{length-drop}
 use Rattle.std.proofs.lemmas.Result.{err_from_is_err_and}
 use Rattle.cordic.proofs.Outs.{counted_zero}
@@ -20,29 +20,29 @@ loop-head-init g c =
     (layers_of bs, describes_records bs (layers_of bs) d, d.formed.0.sized, starts_at (layers_of bs) _ c.requires.1 d.formed.0.chained, counted_zero _, omega arith, omega arith)
 
 -- the layer that the record heads
-facing : (g : _) (c : In-Some g) → Faces c.in-Some.head (records c.in-Some.tail.now) c.loop-head.invariant.0 (length (words_of c.loop-head.bank))
+facing : (g : _) (c : In-Some g) → Faces c.in-Some.head (records c.in-Some.tail.now) c.loop-head.invariant.0 (length (words_of c.loop-head.answer.value))
 facing g c =
     let i = c.loop-head.invariant in
-    faces _ c.in-Some.head (records c.in-Some.tail.now) i.0 (length (words_of c.loop-head.bank)) i.1 i.2 i.3 c.in-Some.ensures.answer.parts
+    faces _ c.in-Some.head (records c.in-Some.tail.now) i.0 (length (words_of c.loop-head.answer.value)) i.1 i.2 i.3 c.in-Some.ensures.answer.parts
 
 pub after-neurons-rest-requires : goal.after-neurons-rest-requires
 after-neurons-rest-requires g c =
     let f = facing g (goal.at.after-neurons-rest-requires g c).In-Some in
-    let l : c.len.result ≡ length (words_of c.loop-head.bank) = c.len.ensures.answer in
+    let l : c.len.result ≡ length (words_of c.loop-head.answer.value) = c.len.ensures.answer in
     let r = ahead_room _ _ _ _ _ f.ahead in
     let n = f.narrow in
     (f.few, (omega arith, rw l (bytes_enough _ c.in-Some.tail.now r)))
 
-pub run-layer-made-requires : goal.run-layer-made-requires
-run-layer-made-requires g c =
-    let f = facing g (goal.at.run-layer-made-requires g c).In-Some in
+pub run-layer-requires : goal.run-layer-requires
+run-layer-requires g c =
+    let f = facing g (goal.at.run-layer-requires g c).In-Some in
     ((f.within.neurons, f.others, rw c.words.ensures.answer f.ahead), f.few)
 
 pub later-requires : goal.later-requires
 later-requires g c =
     let f = facing g (goal.at.later-requires g c).In-Some in
-    let e = c.run-layer-made.ensures.answer f.within.neurons f.others (rw c.words.ensures.answer f.ahead) in
-    let h = layer_made g.S.Stage (λ _. words_of c.run-layer-made.new.outputs) c.run-layer-made.result _ _ _ _ _ _ (rw c.words.ensures.answer f.narrow) f.some e in
+    let e = c.run-layer.ensures.answer f.within.neurons f.others (rw c.words.ensures.answer f.ahead) in
+    let h = layer_made g.S.Stage c.run-layer.result _ _ _ _ _ _ (rw c.words.ensures.answer f.narrow) f.some e in
     let i = c.loop-head.invariant.5 in
     let j = c.loop-head.invariant.6 in
     let k : length c.loop-head.invariant.0 ≡ 1 + length f.others = ap length f.are ∙ omega arith in
@@ -56,11 +56,11 @@ overflow-add-number g c =
 pub returns-in-err-answer : goal.returns-in-err-answer
 returns-in-err-answer g c =
     let f = facing g (goal.at.returns-in-err-answer g c).In-Some in
-    let e = c.run-layer-made.ensures.answer f.within.neurons f.others (rw c.words.ensures.answer f.ahead) in
+    let e = c.run-layer.ensures.answer f.within.neurons f.others (rw c.words.ensures.answer f.ahead) in
     let a = c.activation-of.ensures.answer ∙ f.activation in
     let p = err_from_is_err_and c.from-residual.result c.from-residual.ensures.1 in
     rw (p.1, p.2) (record {
-      answer = flow_halt g.S.Stage g.S.Stage.rule c.loop-head.number _ c.loop-head.invariant.0 f.others f.within _ _ c.loop-head.invariant.4 f.are (λ _. words_of c.run-layer-made.new.outputs) c.run-layer-made.result
+      answer = flow_halt g.S.Stage g.S.Stage.rule c.loop-head.number _ c.loop-head.invariant.0 f.others f.within _ _ c.loop-head.invariant.4 f.are c.run-layer.result
           (rw (c.words.ensures.answer, a) at e) _ (sym c.in-err-answer.was ∙ c.later.ensures.answer);
     })
 
@@ -72,16 +72,16 @@ loop-head-smaller g c =
 pub loop-head-preserved : goal.loop-head-preserved
 loop-head-preserved g c =
     let f = facing g (goal.at.loop-head-preserved g c).In-Some in
-    let l : c.len.result ≡ length (words_of c.loop-head.bank) = c.len.ensures.answer in
+    let l : c.len.result ≡ length (words_of c.loop-head.answer.value) = c.len.ensures.answer in
     let r = rw (← l) at (ahead_room _ _ _ _ _ f.ahead) in
     let past = rw (← l) at (ahead_past _ _ _ _ _ f.ahead) in
-    let e = c.run-layer-made.ensures.answer f.within.neurons f.others (rw c.words.ensures.answer f.ahead) in
+    let e = c.run-layer.ensures.answer f.within.neurons f.others (rw c.words.ensures.answer f.ahead) in
     let a = c.activation-of.ensures.answer ∙ f.activation in
     let d = rw (c.words.ensures.answer, a) at e in
     let ok = sym c.in-ok-answer.was ∙ c.later.ensures.answer in
-    let h = layer_made g.S.Stage (λ _. words_of c.run-layer-made.new.outputs) c.run-layer-made.result _ _ _ _ _ _ (rw c.words.ensures.answer f.narrow) f.some e in
-    let m = later_made _ c.run-layer-made.result _ ok in
-    let w = flow_width g.S.Stage g.S.Stage.rule c.loop-head.number _ c.loop-head.invariant.0 f.others f.within _ _ c.loop-head.invariant.4 f.are (λ _. words_of c.run-layer-made.new.outputs) c.run-layer-made.result d _ ok in
+    let h = layer_made g.S.Stage c.run-layer.result _ _ _ _ _ _ (rw c.words.ensures.answer f.narrow) f.some e in
+    let m = later_made _ c.run-layer.result _ ok in
+    let w = flow_width g.S.Stage g.S.Stage.rule c.loop-head.number _ c.loop-head.invariant.0 f.others f.within _ _ c.loop-head.invariant.4 f.are c.run-layer.result d _ ok in
     let i = c.loop-head.invariant.5 in
     let j = c.loop-head.invariant.6 in
     let k : length c.loop-head.invariant.0 ≡ 1 + length f.others = ap length f.are ∙ omega arith in (
@@ -89,7 +89,7 @@ loop-head-preserved g c =
       ap records c.after-neurons-rest.ensures.answer ∙ records_drop _ c.in-Some.tail.now (bytes_enough _ c.in-Some.tail.now r) ∙ past,
       f.sized,
       rw w f.follows,
-      flow_on g.S.Stage g.S.Stage.rule c.loop-head.number _ c.loop-head.invariant.0 f.others f.within _ _ c.loop-head.invariant.4 f.are (λ _. words_of c.run-layer-made.new.outputs) c.run-layer-made.result d _ ok,
+      flow_on g.S.Stage g.S.Stage.rule c.loop-head.number _ c.loop-head.invariant.0 f.others f.within _ _ c.loop-head.invariant.4 f.are c.run-layer.result d _ ok,
       omega arith,
       omega arith,
     )

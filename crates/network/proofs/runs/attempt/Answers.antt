@@ -1,7 +1,7 @@
-use Rattle.std.proofs.Common.{◌≡◌, length, take, sym, refl, ap, ◌∙◌, arith}
+use Rattle.std.proofs.Common.{◌≡◌, length, take, sym, refl, ap, ◌∙◌, arith, rules}
 use Rattle.std.proofs.lemmas.Result.{err_from_is_err_and}
 use Rattle.network.specs.Seen.{feed_of}
-use Rattle.network.specs.Run.{Feed, outputs, written}
+use Rattle.network.specs.Run.{Feed, outputs, recurrence, written}
 use Rattle.network.specs.Admitted.{Admitted}
 use Rattle.network.specs.Bank.{words_of}
 use Rattle.cordic.specs.Outcome.{went, mapped}
@@ -9,9 +9,9 @@ use Rattle.cordic.specs.Seen.{state_of}
 use Rattle.network.proofs.Placing.{over_length}
 use Rattle.network.proofs.Attempting.{Delivers, delivery, halt, first_places}
 use Rattle.network.proofs.runs.attempt.Goals as goal
-use Rattle.network.proofs.runs.attempt.Goals.{In-default, In-ok-unit}
+use Rattle.network.proofs.runs.attempt.Goals.{In-Ok, In-ok-unit}
 
-abbrev fed : (g : _) (c : In-default g) → Feed
+abbrev fed : (g : _) (c : In-Ok g) → Feed
 fed g c = feed_of g.S.Stage g.P.Sample c.args.plan.now c.args.samples.now c.args.out.now c.args.unit.stage
 
 pub returns-in-Err : goal.returns-in-Err
@@ -19,22 +19,22 @@ returns-in-Err g c =
     let e = c.in-Err.ensures.answer (feed_of g.S.Stage g.P.Sample c.args.plan.now c.args.samples.now c.args.out.now c.args.unit.stage) refl refl refl in
     record { same = ap (mapped outputs) (sym e); within = tt; lent = ap (λ o. written o c.args.out.now) (sym e) }
 
-passed : (g : _) (c : In-default g) → Admitted (fed g c) c.admit.new.inputs
-passed g c = c.in-default.ensures.answer (fed g c) refl refl refl
+passed : (g : _) (c : In-Ok g) → Admitted (fed g c) c.in-Ok.bank
+passed g c = c.in-Ok.ensures.answer (fed g c) refl refl refl
 
 pub run-layers-requires : goal.run-layers-requires
 run-layers-requires g c =
-    let a = passed g (goal.at.run-layers-requires g c).In-default in
+    let a = passed g (goal.at.run-layers-requires g c).In-Ok in
     (a.plan, a.wide)
 
 pub returns-in-err-unit : goal.returns-in-err-unit
 returns-in-err-unit g c =
     let p = err_from_is_err_and c.from-residual.result c.from-residual.ensures.1 in
-    let e = halt _ _ (passed g (goal.at.returns-in-err-unit g c).In-default) _ _ _ c.in-err-unit.ensures.answer in
+    let e = halt _ _ (passed g (goal.at.returns-in-err-unit g c).In-Ok) _ _ _ c.in-err-unit.ensures.answer in
     rw (p.1, p.2) (record { same = ap (mapped outputs) (sym e); within = tt; lent = ap (λ o. written o c.args.out.now) (sym e) })
 
-delivers : (g : _) (c : In-ok-unit g) → Delivers (feed_of g.S.Stage g.P.Sample c.args.plan.now c.args.samples.now c.args.out.now c.args.unit.stage) (words_of c.run-layers.new.bank) c.in-ok-unit.field-0.steps (state_of g.S.Stage c.in-ok-unit.field-0.unit.stage)
-delivers g c = delivery _ _ (c.in-default.ensures.answer (feed_of g.S.Stage g.P.Sample c.args.plan.now c.args.samples.now c.args.out.now c.args.unit.stage) refl refl refl) _ _ _ c.in-ok-unit.ensures.answer
+delivers : (g : _) (c : In-ok-unit g) → Delivers (feed_of g.S.Stage g.P.Sample c.args.plan.now c.args.samples.now c.args.out.now c.args.unit.stage) (words_of c.in-ok-unit.field-0.value) c.in-ok-unit.field-0.steps (state_of g.S.Stage c.in-ok-unit.field-0.unit.stage)
+delivers g c = delivery _ _ (c.in-Ok.ensures.answer (feed_of g.S.Stage g.P.Sample c.args.plan.now c.args.samples.now c.args.out.now c.args.unit.stage) refl refl refl) _ _ _ c.in-ok-unit.ensures.answer
 
 pub deliver-requires : goal.deliver-requires
 deliver-requires g c = (delivers g (goal.at.deliver-requires g c).In-ok-unit).room

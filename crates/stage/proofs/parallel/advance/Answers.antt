@@ -1,8 +1,7 @@
-use Rattle.std.proofs.Common.{ap, ◌∙◌}
-use Rattle.stage.specs.Step.{keeping}
+use Rattle.std.proofs.Common.{◌∙◌}
 use Rattle.stage.proofs.Settling.{settles}
 use Rattle.stage.proofs.parallel.advance.Goals as goal
 
 pub returns : goal.returns
 returns c =
-    record { answer = ap (keeping c.args.t) c.settle.ensures.answer ∙ settles c.args.s c.args.t c.next-x.ensures.answer c.next-y.ensures.answer c.next-z.ensures.answer }
+    record { answer = c.settle.ensures.answer ∙ settles c.args.s c.args.t c.next-x.ensures.answer c.next-y.ensures.answer c.next-z.ensures.answer }

@@ -6,5 +6,5 @@ use Rattle.network.proofs.bank.Bank.push.Goals as goal
 pub returns : goal.returns
 returns c =
     let f : SFits w32 c.args.word = c.ranges.word in
-    let h : c.args.self.now.used < length c.args.self.now.words = search rules in
+    let h : c.args.self.used < length c.args.self.words = search rules in
     record { listed = rw to_z-of_z (take_more_set _ _ _ h); count = refl }
