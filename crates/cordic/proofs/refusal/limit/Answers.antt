@@ -3,15 +3,15 @@ use Rattle.std.proofs.lemmas.Int.{ints}
 use Rattle.cordic.proofs.Spans.{span_small, shifted_small}
 use Rattle.cordic.proofs.refusal.limit.Goals as goal
 
-pub overflow-add-result : goal.overflow-add-result
-overflow-add-result g c =
+pub overflow_add-result : goal.overflow_add-result
+overflow_add-result g c =
     let f : SFits w32 c.args.t.x = search rules in
     let h = span_small c.args.t.x g.C.Coordinate.order f g.met.C.Coordinate.few in
     let b = shifted_small c.args.t.x c.capped.result.amount f in
     search rules
 
-pub overflow-add-result-2 : goal.overflow-add-result-2
-overflow-add-result-2 g c =
+pub overflow_add-result-2 : goal.overflow_add-result-2
+overflow_add-result-2 g c =
     let f : SFits w32 c.args.t.x = search rules in
     let h = span_small c.args.t.x g.C.Coordinate.order f g.met.C.Coordinate.few in
     let b = shifted_small c.args.t.x c.capped.result.amount f in

@@ -4,8 +4,8 @@ use Rattle.cordic.proofs.Places.{within}
 use Rattle.cordic.proofs.Spans.{shifted_small, span_more, span_done}
 use Rattle.cordic.proofs.refusal.span.Goals as goal
 
-pub overflow-add-sum : goal.overflow-add-sum
-overflow-add-sum g c =
+pub overflow_add-sum : goal.overflow_add-sum
+overflow_add-sum g c =
     let f : SFits w32 c.args.t.x = search rules in
     let b = shifted_small c.args.t.x c.in-Some.k.shift.amount f in
     let h = within g.C.Coordinate.order c.loop-k.i c.in-Some.k c.in-Some.ensures.answer in
@@ -31,4 +31,4 @@ loop-k-preserved g c =
 
 pub returns : goal.returns
 returns g c =
-    record { answer = span_done c.args.t.x _ g.C.Coordinate.order c.loop-k.i c.in-default.ensures.answer c.loop-k.invariant.0 }
+    record { answer = span_done c.args.t.x _ g.C.Coordinate.order c.loop-k.i c.in_default.ensures.answer c.loop-k.invariant.0 }

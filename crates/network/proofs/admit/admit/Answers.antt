@@ -13,26 +13,26 @@ returns-in-err-plan g c =
 
 pub returns-then-places-outputs : goal.returns-then-places-outputs
 returns-then-places-outputs g c =
-    let d = c.in-ok-plan.ensures.answer in
+    let d = c.in_ok-plan.ensures.answer in
     record { answer = λ f p q r. few_places f c.args.bytes.now (map g.P.Sample.yields c.args.samples.now) _ p q r d.1 (omega (arith, c.if-places-outputs.true, c.outputs.ensures.answer, d.3)) }
 
 pub returns-then-samples-inputs : goal.returns-then-samples-inputs
 returns-then-samples-inputs g c =
-    let d = c.in-ok-plan.ensures.answer in
+    let d = c.in_ok-plan.ensures.answer in
     record { answer = λ f p q r. bad_count f c.args.bytes.now (map g.P.Sample.yields c.args.samples.now) _ p q r d.1 (omega (arith, c.if-places-outputs.false, c.outputs.ensures.answer, d.3)) (λ n. c.if-samples-inputs.true (sym (length-map c.args.samples.now g.P.Sample.yields) ∙ n ∙ sym (c.inputs.ensures.answer ∙ d.2))) }
 
 pub gather-requires : goal.gather-requires
 gather-requires g c =
-    let d = c.in-ok-plan.ensures.answer in
-    let e = entrance_narrow (layers_of c.args.bytes.now) (c.in-ok-plan.ensures.accepted.0 (layers_of c.args.bytes.now) d.1).formed.0.sized in
+    let d = c.in_ok-plan.ensures.answer in
+    let e = entrance_narrow (layers_of c.args.bytes.now) (c.in_ok-plan.ensures.accepted.0 (layers_of c.args.bytes.now) d.1).formed.0.sized in
     omega (arith, c.if-samples-inputs.false, c.inputs.ensures.answer, d.2, e)
 
 pub returns-in-Ok : goal.returns-in-Ok
 returns-in-Ok g c =
-    let d = c.in-ok-plan.ensures.answer in
-    record { answer = λ f p q r. all_pass f c.args.bytes.now (map g.P.Sample.yields c.args.samples.now) _ p q r d.1 (omega (arith, c.if-places-outputs.false, c.outputs.ensures.answer, d.3)) (length-map c.args.samples.now g.P.Sample.yields ∙ c.if-samples-inputs.false ∙ c.inputs.ensures.answer ∙ d.2) (c.in-ok-plan.ensures.accepted.0 (layers_of c.args.bytes.now) d.1) _ c.in-Ok.ensures.answer }
+    let d = c.in_ok-plan.ensures.answer in
+    record { answer = λ f p q r. all_pass f c.args.bytes.now (map g.P.Sample.yields c.args.samples.now) _ p q r d.1 (omega (arith, c.if-places-outputs.false, c.outputs.ensures.answer, d.3)) (length-map c.args.samples.now g.P.Sample.yields ∙ c.if-samples-inputs.false ∙ c.inputs.ensures.answer ∙ d.2) (c.in_ok-plan.ensures.accepted.0 (layers_of c.args.bytes.now) d.1) _ c.in-Ok.ensures.answer }
 
 pub returns-in-Err : goal.returns-in-Err
 returns-in-Err g c =
-    let d = c.in-ok-plan.ensures.answer in
+    let d = c.in_ok-plan.ensures.answer in
     record { answer = λ f p q r. no_sample f c.args.bytes.now (map g.P.Sample.yields c.args.samples.now) _ p q r d.1 (omega (arith, c.if-places-outputs.false, c.outputs.ensures.answer, d.3)) (length-map c.args.samples.now g.P.Sample.yields ∙ c.if-samples-inputs.false ∙ c.inputs.ensures.answer ∙ d.2) c.in-Err.ensures.answer }

@@ -45,14 +45,14 @@ pub returns-then-ends : goal.returns-then-ends
 returns-then-ends c =
     let b : has_bad_length (length c.args.bytes.now) ≡ false = cc in
     let t : ends c.loop-given.next ≡ true = cc in
-    let w = walk_end c.loop-given.next c.loop-given.position c.loop-given.rest.now true c.in-default.ensures.answer t in
+    let w = walk_end c.loop-given.next c.loop-given.position c.loop-given.rest.now true c.in_default.ensures.answer t in
     let a = sym c.loop-given.invariant.2 ∙ w in
-    let n = ap (end_of c.loop-given.next) (sym (records_none c.loop-given.rest.now c.in-default.ensures.answer)) ∙ c.loop-given.invariant.3 in
+    let n = ap (end_of c.loop-given.next) (sym (records_none c.loop-given.rest.now c.in_default.ensures.answer)) ∙ c.loop-given.invariant.3 in
     record { answer = (plan_accepted c.args.bytes.now b a, c.width.ensures.answer ∙ plan_width c.args.bytes.now c.loop-given.next b a n) }
 
 pub returns-else-ends : goal.returns-else-ends
 returns-else-ends c =
     let b : has_bad_length (length c.args.bytes.now) ≡ false = cc in
     let t : ends c.loop-given.next ≡ false = cc in
-    let w = walk_end c.loop-given.next c.loop-given.position c.loop-given.rest.now false c.in-default.ensures.answer t in
+    let w = walk_end c.loop-given.next c.loop-given.position c.loop-given.rest.now false c.in_default.ensures.answer t in
     record { answer = plan_refused c.args.bytes.now c.loop-given.position b (sym c.loop-given.invariant.2 ∙ w) }

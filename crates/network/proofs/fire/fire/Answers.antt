@@ -19,11 +19,11 @@ pub returns-in-Identity : goal.returns-in-Identity
 returns-in-Identity g c =
     let f : SFits w32 c.args.bias = c.ranges.bias in
     let n = neuron_of c.args.bias c.args.weights.now in
-    record { answer = rw c.in-Identity.is ((simp to_z-of_z at c.in-ok-answer.ensures.answer) ∙ fire_identity g.S.Stage.rule _ n _) }
+    record { answer = rw c.in-Identity.is ((simp to_z-of_z at c.in_ok-answer.ensures.answer) ∙ fire_identity g.S.Stage.rule _ n _) }
 
 pub later-requires : goal.later-requires
 later-requires g c =
-    let a = net_short _ _ _ _ _ _ _ _ c.requires.1 c.in-ok-answer.ensures.answer in
+    let a = net_short _ _ _ _ _ _ _ _ c.requires.1 c.in_ok-answer.ensures.answer in
     let b = tanh_made g.S.Stage c.tanh.result _ _ _ c.tanh.ensures.answer in
     omega arith
 

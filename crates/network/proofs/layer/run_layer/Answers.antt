@@ -40,18 +40,18 @@ returns-in-err-unit g c =
 
 pub loop-neuron-preserved : goal.loop-neuron-preserved
 loop-neuron-preserved g c =
-    let z : SFits w32 c.read-neuron-bias.result.0 = search rules in
-    let y : SFits w32 c.in-ok-unit.field-0.value = search rules in
+    let z : SFits w32 c.read_neuron-bias.result.0 = search rules in
+    let y : SFits w32 c.in_ok-unit.field-0.value = search rules in
     let f = simp (to_z-of_z, sub-zero) at c.fire-fired.ensures.answer in
     let h = fire_short g.S.Stage c.fire-fired.result _ _ _ _ _ c.requires.0.2.few c.fire-fired.ensures.answer in
     let k = c.loop-neuron.invariant.2 in
-    let s = placed_steps (site_at c.args.head.number c.loop-neuron.neuron) _ _ _ _ c.later.ensures.answer c.in-ok-unit.ensures.answer in (
+    let s = placed_steps (site_at c.args.head.number c.loop-neuron.neuron) _ _ _ _ c.later.ensures.answer c.in_ok-unit.ensures.answer in (
       (λ all ls h.
           let a = c.loop-neuron.invariant.0 all ls h in
-          let m = ahead_more _ _ _ _ a.0 ls _ _ _ a.1 (omega arith) c.read-neuron-bias.ensures.answer in
+          let m = ahead_more _ _ _ _ a.0 ls _ _ _ a.1 (omega arith) c.read_neuron-bias.ensures.answer in
           let e = fired_is _ _ _ m.first _ _ _ m.bias_is m.weights_are f in
           let o = layer_on g.S.Stage g.S.Stage.rule c.args.head.number c.args.head.activation c.args.inputs.now _ c.loop-neuron.neuron _ a.0 m.others m.first _ a.2 m.are
-          _ _ e c.later.ensures.answer _ c.in-ok-unit.ensures.answer in
+          _ _ e c.later.ensures.answer _ c.in_ok-unit.ensures.answer in
           (m.others, m.ahead, rw (simp to_z-of_z at c.push.ensures.listed) o)),
       omega arith,
       omega (arith, s),

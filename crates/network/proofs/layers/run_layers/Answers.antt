@@ -41,8 +41,8 @@ run-layer-requires g c =
 pub later-requires : goal.later-requires
 later-requires g c =
     let f = facing g (goal.at.later-requires g c).In-Some in
-    let e = c.run-layer.ensures.answer f.within.neurons f.others (rw c.words.ensures.answer f.ahead) in
-    let h = layer_made g.S.Stage c.run-layer.result _ _ _ _ _ _ (rw c.words.ensures.answer f.narrow) f.some e in
+    let e = c.run_layer.ensures.answer f.within.neurons f.others (rw c.words.ensures.answer f.ahead) in
+    let h = layer_made g.S.Stage c.run_layer.result _ _ _ _ _ _ (rw c.words.ensures.answer f.narrow) f.some e in
     let i = c.loop-head.invariant.5 in
     let j = c.loop-head.invariant.6 in
     let k : length c.loop-head.invariant.0 ≡ 1 + length f.others = ap length f.are ∙ omega arith in
@@ -67,7 +67,7 @@ returns-in-err-answer g c =
 pub loop-head-smaller : goal.loop-head-smaller
 loop-head-smaller g c =
     let s = c.in-Some.ensures.answer in
-    omega (arith, ap length c.after-neurons-rest.ensures.answer, length-drop (8 * (c.in-Some.head.index * (c.len.result + 1))) c.in-Some.tail.now, ap length s.after, length-drop 8 c.loop-head.rest.now, s.enough)
+    omega (arith, ap length c.after_neurons-rest.ensures.answer, length-drop (8 * (c.in-Some.head.index * (c.len.result + 1))) c.in-Some.tail.now, ap length s.after, length-drop 8 c.loop-head.rest.now, s.enough)
 
 pub loop-head-preserved : goal.loop-head-preserved
 loop-head-preserved g c =
@@ -75,13 +75,13 @@ loop-head-preserved g c =
     let l : c.len.result ≡ length (words_of c.loop-head.answer.value) = c.len.ensures.answer in
     let r = rw (← l) at (ahead_room _ _ _ _ _ f.ahead) in
     let past = rw (← l) at (ahead_past _ _ _ _ _ f.ahead) in
-    let e = c.run-layer.ensures.answer f.within.neurons f.others (rw c.words.ensures.answer f.ahead) in
-    let a = c.activation-of.ensures.answer ∙ f.activation in
+    let e = c.run_layer.ensures.answer f.within.neurons f.others (rw c.words.ensures.answer f.ahead) in
+    let a = c.activation_of.ensures.answer ∙ f.activation in
     let d = rw (c.words.ensures.answer, a) at e in
-    let ok = sym c.in-ok-answer.was ∙ c.later.ensures.answer in
-    let h = layer_made g.S.Stage c.run-layer.result _ _ _ _ _ _ (rw c.words.ensures.answer f.narrow) f.some e in
-    let m = later_made _ c.run-layer.result _ ok in
-    let w = flow_width g.S.Stage g.S.Stage.rule c.loop-head.number _ c.loop-head.invariant.0 f.others f.within _ _ c.loop-head.invariant.4 f.are c.run-layer.result d _ ok in
+    let ok = sym c.in_ok-answer.was ∙ c.later.ensures.answer in
+    let h = layer_made g.S.Stage c.run_layer.result _ _ _ _ _ _ (rw c.words.ensures.answer f.narrow) f.some e in
+    let m = later_made _ c.run_layer.result _ ok in
+    let w = flow_width g.S.Stage g.S.Stage.rule c.loop-head.number _ c.loop-head.invariant.0 f.others f.within _ _ c.loop-head.invariant.4 f.are c.run_layer.result d _ ok in
     let i = c.loop-head.invariant.5 in
     let j = c.loop-head.invariant.6 in
     let k : length c.loop-head.invariant.0 ≡ 1 + length f.others = ap length f.are ∙ omega arith in (
@@ -89,7 +89,7 @@ loop-head-preserved g c =
       ap records c.after-neurons-rest.ensures.answer ∙ records_drop _ c.in-Some.tail.now (bytes_enough _ c.in-Some.tail.now r) ∙ past,
       f.sized,
       rw w f.follows,
-      flow_on g.S.Stage g.S.Stage.rule c.loop-head.number _ c.loop-head.invariant.0 f.others f.within _ _ c.loop-head.invariant.4 f.are c.run-layer.result d _ ok,
+      flow_on g.S.Stage g.S.Stage.rule c.loop-head.number _ c.loop-head.invariant.0 f.others f.within _ _ c.loop-head.invariant.4 f.are c.run_layer.result d _ ok,
       omega arith,
       omega arith,
     )
@@ -97,5 +97,5 @@ loop-head-preserved g c =
 pub returns : goal.returns
 returns g c =
     let i = c.loop-head.invariant in
-    let n = layers_none _ i.0 i.1 (records_none c.loop-head.rest.now c.in-default.ensures.answer) in
+    let n = layers_none _ i.0 i.1 (records_none c.loop-head.rest.now c.in_default.ensures.answer) in
     record { answer = flow_done g.S.Stage.rule _ _ i.0 _ _ i.4 n }

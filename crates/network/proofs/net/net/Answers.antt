@@ -30,8 +30,8 @@ loop-i-preserved g c =
     let fz : SFits w32 (get_or c.args.weights.now c.loop-i.i (pos 0)) = search rules in
     let e = simp to_z-of_z at c.product.ensures.answer in
     let h = product_short g.S.Stage c.product.result _ _ _ c.product.ensures.answer in (
-      omega (arith, placed_steps (Some c.loop-i.i) _ _ _ _ c.later.ensures.answer c.in-ok-answer.ensures.answer),
-      net_on g.S.Stage _ _ _ _ _ _ _ c.loop-i.invariant.1 c.loop-i-test.true k _ _ e c.later.ensures.answer _ c.in-ok-answer.ensures.answer,
+      omega (arith, placed_steps (Some c.loop-i.i) _ _ _ _ c.later.ensures.answer c.in_ok-answer.ensures.answer),
+      net_on g.S.Stage _ _ _ _ _ _ _ c.loop-i.invariant.1 c.loop-i-test.true k _ _ e c.later.ensures.answer _ c.in_ok-answer.ensures.answer,
     )
 
 pub returns : goal.returns

@@ -9,6 +9,6 @@ pub returns : goal.returns
 returns g c =
     let t = triple_of (bits_in c.save-o.result) in
     let e = ap triple_of c.save-o.ensures.same in
-    let h = settles c.args.s t c.next-x.ensures.answer c.next-y.ensures.answer c.next-z.ensures.answer in
-    let k = ap (λ old. settled old c.next-x.result c.next-y.result c.next-z.result) (c.triple.ensures.answer ∙ sym e) in
+    let h = settles c.args.s t c.next_x.ensures.answer c.next_y.ensures.answer c.next_z.ensures.answer in
+    let k = ap (λ old. settled old c.next_x.result c.next_y.result c.next_z.result) (c.triple.ensures.answer ∙ sym e) in
     record { answer = c.settle.ensures.answer ∙ k ∙ h ∙ ap (stepped c.args.s) e }

@@ -5,5 +5,5 @@ use Rattle.cordic.proofs.circular.CircularCoordinate.at.Goals as goal
 pub returns : goal.returns
 unfolding circular
 returns c =
-    let e = c.iteration-at.ensures.answer in
+    let e = c.iteration_at.ensures.answer in
     record { answer = e; rule = circular_rule c.args.i _ e }

@@ -5,5 +5,5 @@ use Rattle.cordic.proofs.hyperbolic.HyperbolicCoordinate.at.Goals as goal
 pub returns : goal.returns
 unfolding hyperbolic
 returns c =
-    let e = c.iteration-at.ensures.answer in
+    let e = c.iteration_at.ensures.answer in
     record { answer = e; rule = hyperbolic_rule c.args.i _ e }

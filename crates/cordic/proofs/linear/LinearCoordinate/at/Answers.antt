@@ -5,5 +5,5 @@ use Rattle.cordic.proofs.linear.LinearCoordinate.at.Goals as goal
 pub returns : goal.returns
 unfolding linear
 returns c =
-    let e = c.iteration-at.ensures.answer in
+    let e = c.iteration_at.ensures.answer in
     record { answer = e; rule = linear_rule c.args.i _ e }

@@ -14,7 +14,7 @@ returns-in-Some g c =
 
 pub returns : goal.returns
 returns g c =
-    let e = c.in-default.ensures.answer in
+    let e = c.in_default.ensures.answer in
     record {
       answer = load_accepted g.S.Stage.rule _ _ _ _ (state_of g.S.Stage c.args.self.stage) (state_of g.S.Stage c.load.new.self) e c.load.ensures.held c.load.ensures.noted;
       same = refl;

@@ -24,14 +24,14 @@ returns-in-err-outputs c =
 pub unreachable-requires : goal.unreachable-requires
 unreachable-requires c =
     let bs = c.args.bytes.now in
-    let d = plan_describes bs (layers_of bs) (all_bytes bs c.type-inv.bytes) c.in-ok-outputs.ensures.answer.0 in
+    let d = plan_describes bs (layers_of bs) (all_bytes bs c.ok.bytes) c.in-ok-outputs.ensures.answer.0 in
     some_record bs (layers_of bs) d c.in-default.ensures.answer
 
 -- the first record's value
 first : (c : In-Some) → (c.in-Some.head.value ≡ pos (entrance (layers_of c.args.bytes.now))) × (entrance (layers_of c.args.bytes.now) ≤ 64)
 first c =
     let bs = c.args.bytes.now in
-    let d = plan_describes bs (layers_of bs) (all_bytes bs c.type-inv.bytes) c.in-ok-outputs.ensures.answer.0 in
+    let d = plan_describes bs (layers_of bs) (all_bytes bs c.ok.bytes) c.in-ok-outputs.ensures.answer.0 in
     head_inputs (records bs) c.in-Some.head _ (layers_of bs) (describes_records bs (layers_of bs) d) d.formed.0.sized c.in-Some.ensures.answer.parts
 
 pub overflow-cast-result : goal.overflow-cast-result
@@ -43,7 +43,7 @@ overflow-cast-result c =
 
 pub returns : goal.returns
 returns c =
-    let a = all_bytes c.args.bytes.now c.type-inv.bytes in
+    let a = all_bytes c.args.bytes.now c.ok.bytes in
     let f = first (goal.at.returns c).In-Some in
     let z = to_z-of_z w32 c.in-Some.head.value (search rules) ∙ f.0 in
     record {

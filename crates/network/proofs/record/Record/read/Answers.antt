@@ -8,5 +8,5 @@ pub returns : goal.returns
 returns c =
     let h : 8 ≤ length c.args.bytes.now = search rules in
     let e = records_cons c.args.bytes.now h in
-    let v = to_z-of_z w32 c.cast-signed.result (search rules) ∙ c.cast-signed.ensures in
+    let v = to_z-of_z w32 c.cast_signed.result (search rules) ∙ c.cast_signed.ensures in
     record { answer = simp (take_rest c.args.bytes.now 8, v) (record { enough = h; parts = e; after = refl }) }

@@ -5,7 +5,7 @@ use Rattle.stage.proofs.recorder.RecorderStage.step.Goals as goal
 
 pub returns : goal.returns
 returns g c =
-    let h = sym c.in-ok-step.was ∙ c.step.ensures.answer in
+    let h = sym c.in_ok-step.was ∙ c.step.ensures.answer in
     record {
       answer = h;
       held = c.step.ensures.held;
