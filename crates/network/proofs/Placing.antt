@@ -39,11 +39,15 @@ over_later new old i d h =
 pub kept : (f : Feed) (why : NetworkFault) (n : ℕ) (s : State) → recurrence f ≡ stopped why n s → written (recurrence f) f.places ≡ f.places
 kept f why n s e = ap (λ o. written o f.places) e
 
+-- an accepted run has an output for each neuron of the last layer
+pub outputs_wide : (f : Feed) (w : List (List Working)) (n : ℕ) (s : State) (hs : List LayerOf) (xs : List ℤ) → recurrence f ≡ went w n s → Entered f hs xs → length (outputs w) ≡ exits hs
+outputs_wide f w n s hs xs e t = length-map (finals w) output ∙ finals_length hs w (layers_widths f.rule 0 hs xs f.state w n s (sym t.goes ∙ e))
+
 accepts : (f : Feed) (w : List (List Working)) (n : ℕ) (s : State) (hs : List LayerOf) (xs : List ℤ) → recurrence f ≡ went w n s → Entered f hs xs → Accepts f w n s hs xs
 accepts f w n s hs xs e t =
     let l = sym t.goes ∙ e in
     let k = layers_widths f.rule 0 hs xs f.state w n s l in
-    let o : length (outputs w) ≡ exits hs = length-map (finals w) output ∙ finals_length hs w k in
+    let o = outputs_wide f w n s hs xs e t in
     let p : written (recurrence f) f.places ≡ outputs w ++ drop (length (outputs w)) f.places = ap (λ o. written o f.places) e in
     let r = t.room in
     record {

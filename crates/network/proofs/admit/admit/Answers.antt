@@ -6,10 +6,10 @@ use Rattle.network.proofs.Planning.{plan_shaped}
 use Rattle.network.specs.Walk.{layers_of}
 use Rattle.network.proofs.admit.admit.Goals as goal
 
-pub returns-in-err-plan : goal.returns-in-err-plan
-returns-in-err-plan g c =
-    let e = err_from_is_err_and c.from-residual.result c.from-residual.ensures.1 in
-    rw (e.1, e.2) (record { answer = λ f p q r. bad_plan f _ _ _ p q r c.in-err-plan.ensures.answer })
+pub returns-in_err-plan : goal.returns-in_err-plan
+returns-in_err-plan g c =
+    let e = err_from_is_err_and c.from_residual.result c.from_residual.ensures.1 in
+    rw (e.1, e.2) (record { answer = λ f p q r. bad_plan f _ _ _ p q r c.in_err-plan.ensures.answer })
 
 pub returns-then-places-outputs : goal.returns-then-places-outputs
 returns-then-places-outputs g c =

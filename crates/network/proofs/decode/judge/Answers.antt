@@ -8,21 +8,21 @@ use Rattle.network.proofs.Planning.{long_plan}
 use Rattle.network.proofs.Walks.{not_long, walk_more, walk_stop, walk_end, plan_refused, plan_accepted, end_of, end_more, plan_width}
 use Rattle.network.proofs.decode.judge.Goals as goal
 
-pub returns-then-bad-length : goal.returns-then-bad-length
-returns-then-bad-length c =
+pub returns-then-bad_length : goal.returns-then-bad_length
+returns-then-bad_length c =
     let b : has_bad_length (length c.args.bytes.now) ≡ true = cc in
     record { answer = long_plan c.args.bytes.now b }
 
-pub overflow-add-position : goal.overflow-add-position
-overflow-add-position c =
+pub overflow_add-position : goal.overflow_add-position
+overflow_add-position c =
     let s = c.in-Some.ensures.answer in
     let b : has_bad_length (length c.args.bytes.now) ≡ false = cc in
     let l = not_long (length c.args.bytes.now) b in
     let k : 8 * c.loop-given.position ≤ 65528 = omega arith in
     search rules
 
-pub returns-in-default-accept : goal.returns-in-default-accept
-returns-in-default-accept c =
+pub returns-in_default-accept : goal.returns-in_default-accept
+returns-in_default-accept c =
     let s = c.in-Some.ensures.answer in
     let b : has_bad_length (length c.args.bytes.now) ≡ false = cc in
     let e : accept c.loop-given.next c.in-Some.given ≡ None = cc in

@@ -12,8 +12,8 @@ use Rattle.network.proofs.Places.{placed_steps}
 use Rattle.network.proofs.ReadBack.{Met, ahead_enough, ahead_more, ahead_none}
 use Rattle.network.proofs.layer.run_layer.Goals as goal
 
-pub read-neuron-bias-requires : goal.read-neuron-bias-requires
-read-neuron-bias-requires g c =
+pub read_neuron-bias-requires : goal.read_neuron-bias-requires
+read_neuron-bias-requires g c =
     let p = c.requires.0 in
     let a = c.loop-neuron.invariant.0 p.0 p.1 p.2 in
     (p.2.few, ahead_enough _ _ _ _ a.0 p.1 a.1 (omega arith))
@@ -24,18 +24,18 @@ later-requires g c =
     let k = c.loop-neuron.invariant.2 in
     omega arith
 
-pub returns-in-err-unit : goal.returns-in-err-unit
-returns-in-err-unit g c =
-    let z : SFits w32 c.read-neuron-bias.result.0 = search rules in
+pub returns-in_err-unit : goal.returns-in_err-unit
+returns-in_err-unit g c =
+    let z : SFits w32 c.read_neuron-bias.result.0 = search rules in
     let f = simp (to_z-of_z, sub-zero) at c.fire-fired.ensures.answer in
-    let p = err_from_is_err_and c.from-residual.result c.from-residual.ensures.1 in
+    let p = err_from_is_err_and c.from_residual.result c.from_residual.ensures.1 in
     rw (p.1, p.2) (record {
       answer = λ all ls h.
           let a = c.loop-neuron.invariant.0 all ls h in
-          let m = ahead_more _ _ _ _ a.0 ls _ _ _ a.1 (omega arith) c.read-neuron-bias.ensures.answer in
+          let m = ahead_more _ _ _ _ a.0 ls _ _ _ a.1 (omega arith) c.read_neuron-bias.ensures.answer in
           let e = fired_is _ _ _ m.first _ _ _ m.bias_is m.weights_are f in
           layer_halt g.S.Stage g.S.Stage.rule c.args.head.number c.args.head.activation c.args.inputs.now _ c.loop-neuron.neuron _ a.0 m.others m.first _ a.2 m.are
-          _ _ e c.later.ensures.answer _ c.in-err-unit.ensures.answer;
+          _ _ e c.later.ensures.answer _ c.in_err-unit.ensures.answer;
     })
 
 pub loop-neuron-preserved : goal.loop-neuron-preserved

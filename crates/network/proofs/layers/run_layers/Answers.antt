@@ -25,17 +25,17 @@ facing g c =
     let i = c.loop-head.invariant in
     faces _ c.in-Some.head (records c.in-Some.tail.now) i.0 (length (words_of c.loop-head.answer.value)) i.1 i.2 i.3 c.in-Some.ensures.answer.parts
 
-pub after-neurons-rest-requires : goal.after-neurons-rest-requires
-after-neurons-rest-requires g c =
-    let f = facing g (goal.at.after-neurons-rest-requires g c).In-Some in
+pub after_neurons-rest-requires : goal.after_neurons-rest-requires
+after_neurons-rest-requires g c =
+    let f = facing g (goal.at.after_neurons-rest-requires g c).In-Some in
     let l : c.len.result ≡ length (words_of c.loop-head.answer.value) = c.len.ensures.answer in
     let r = ahead_room _ _ _ _ _ f.ahead in
     let n = f.narrow in
     (f.few, (omega arith, rw l (bytes_enough _ c.in-Some.tail.now r)))
 
-pub run-layer-requires : goal.run-layer-requires
-run-layer-requires g c =
-    let f = facing g (goal.at.run-layer-requires g c).In-Some in
+pub run_layer-requires : goal.run_layer-requires
+run_layer-requires g c =
+    let f = facing g (goal.at.run_layer-requires g c).In-Some in
     ((f.within.neurons, f.others, rw c.words.ensures.answer f.ahead), f.few)
 
 pub later-requires : goal.later-requires
@@ -48,20 +48,20 @@ later-requires g c =
     let k : length c.loop-head.invariant.0 ≡ 1 + length f.others = ap length f.are ∙ omega arith in
     omega arith
 
-pub overflow-add-number : goal.overflow-add-number
-overflow-add-number g c =
+pub overflow_add-number : goal.overflow_add-number
+overflow_add-number g c =
     let j = c.loop-head.invariant.6 in
     search rules
 
-pub returns-in-err-answer : goal.returns-in-err-answer
-returns-in-err-answer g c =
-    let f = facing g (goal.at.returns-in-err-answer g c).In-Some in
-    let e = c.run-layer.ensures.answer f.within.neurons f.others (rw c.words.ensures.answer f.ahead) in
-    let a = c.activation-of.ensures.answer ∙ f.activation in
-    let p = err_from_is_err_and c.from-residual.result c.from-residual.ensures.1 in
+pub returns-in_err-answer : goal.returns-in_err-answer
+returns-in_err-answer g c =
+    let f = facing g (goal.at.returns-in_err-answer g c).In-Some in
+    let e = c.run_layer.ensures.answer f.within.neurons f.others (rw c.words.ensures.answer f.ahead) in
+    let a = c.activation_of.ensures.answer ∙ f.activation in
+    let p = err_from_is_err_and c.from_residual.result c.from_residual.ensures.1 in
     rw (p.1, p.2) (record {
-      answer = flow_halt g.S.Stage g.S.Stage.rule c.loop-head.number _ c.loop-head.invariant.0 f.others f.within _ _ c.loop-head.invariant.4 f.are c.run-layer.result
-          (rw (c.words.ensures.answer, a) at e) _ (sym c.in-err-answer.was ∙ c.later.ensures.answer);
+      answer = flow_halt g.S.Stage g.S.Stage.rule c.loop-head.number _ c.loop-head.invariant.0 f.others f.within _ _ c.loop-head.invariant.4 f.are c.run_layer.result
+          (rw (c.words.ensures.answer, a) at e) _ (sym c.in_err-answer.was ∙ c.later.ensures.answer);
     })
 
 pub loop-head-smaller : goal.loop-head-smaller
@@ -86,7 +86,7 @@ loop-head-preserved g c =
     let j = c.loop-head.invariant.6 in
     let k : length c.loop-head.invariant.0 ≡ 1 + length f.others = ap length f.are ∙ omega arith in (
       f.others,
-      ap records c.after-neurons-rest.ensures.answer ∙ records_drop _ c.in-Some.tail.now (bytes_enough _ c.in-Some.tail.now r) ∙ past,
+      ap records c.after_neurons-rest.ensures.answer ∙ records_drop _ c.in-Some.tail.now (bytes_enough _ c.in-Some.tail.now r) ∙ past,
       f.sized,
       rw w f.follows,
       flow_on g.S.Stage g.S.Stage.rule c.loop-head.number _ c.loop-head.invariant.0 f.others f.within _ _ c.loop-head.invariant.4 f.are c.run_layer.result d _ ok,

@@ -10,8 +10,8 @@ use Rattle.network.proofs.net.net.Goals as goal
 pub later-requires : goal.later-requires
 later-requires g c = let h = product_short g.S.Stage c.product.result _ _ _ c.product.ensures.answer in omega arith
 
-pub returns-in-err-answer : goal.returns-in-err-answer
-returns-in-err-answer g c =
+pub returns-in_err-answer : goal.returns-in_err-answer
+returns-in_err-answer g c =
     let k : c.loop-i.i < length c.args.weights.now = omega arith in
     let fx : SFits w32 (get_or c.args.inputs.now c.loop-i.i (pos 0)) = search rules in
     let fy : SFits w32 c.loop-i.answer.value = search rules in
@@ -19,8 +19,8 @@ returns-in-err-answer g c =
     let fb : SFits w32 c.args.bias = search rules in
     let e = simp to_z-of_z at c.product.ensures.answer in
     let inv = simp to_z-of_z at c.loop-i.invariant.1 in
-    let p = err_from_is_err_and c.from-residual.result c.from-residual.ensures.1 in
-    rw (p.1, p.2) (record { answer = net_halt g.S.Stage _ _ _ _ _ _ _ inv c.loop-i-test.true k _ _ e c.later.ensures.answer _ c.in-err-answer.ensures.answer })
+    let p = err_from_is_err_and c.from_residual.result c.from_residual.ensures.1 in
+    rw (p.1, p.2) (record { answer = net_halt g.S.Stage _ _ _ _ _ _ _ inv c.loop-i-test.true k _ _ e c.later.ensures.answer _ c.in_err-answer.ensures.answer })
 
 pub loop-i-preserved : goal.loop-i-preserved
 loop-i-preserved g c =

@@ -10,9 +10,9 @@ pub loop-i-init : goal.loop-i-init
 loop-i-init c =
     (neuron_none (records c.args.bytes.now) c.in-Some.bias (records c.in-Some.rest.now) c.args.weights.now c.in-Some.ensures.answer.parts, search rules)
 
-pub unreachable-requires-in-default-read : goal.unreachable-requires-in-default-read
-unreachable-requires-in-default-read c =
-    let none = records_none c.loop-i.rest.now c.in-default-read.ensures.answer in
+pub unreachable-requires-in_default-read : goal.unreachable-requires-in_default-read
+unreachable-requires-in_default-read c =
+    let none = records_none c.loop-i.rest.now c.in_default-read.ensures.answer in
     omega (arith, ap length none, ap length c.loop-i.invariant.0.after, length-drop (c.loop-i.i + 1) (records c.args.bytes.now))
 
 pub loop-i-preserved : goal.loop-i-preserved

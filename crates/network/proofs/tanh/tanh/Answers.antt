@@ -9,11 +9,11 @@ use Rattle.network.proofs.Short.{made_steps, mapped_steps, passed_short, went_sh
 use Rattle.network.proofs.Systems.{hyperbolic_length}
 use Rattle.network.proofs.tanh.tanh.Goals as goal
 
-pub returns-in-err-unit : goal.returns-in-err-unit
-returns-in-err-unit g c =
+pub returns-in_err-unit : goal.returns-in_err-unit
+returns-in_err-unit g c =
     let f : SFits w32 c.args.net = c.ranges.net in
-    let p = err_from_is_err_and c.from-residual.result c.from-residual.ensures.1 in
-    rw (p.1, p.2) (record { answer = tanh_refused _ _ _ (simp to_z-of_z at c.in-err-unit.ensures.answer) })
+    let p = err_from_is_err_and c.from_residual.result c.from_residual.ensures.1 in
+    rw (p.1, p.2) (record { answer = tanh_refused _ _ _ (simp to_z-of_z at c.in_err-unit.ensures.answer) })
 
 pub later-requires : goal.later-requires
 later-requires g c =

@@ -6,7 +6,7 @@ use Rattle.neuron.proofs.Lines.{lines_more, lines_done}
 use Rattle.neuron.proofs.printout.output_lines.Goals as goal
 
 pub loop-i-init : goal.loop-i-init
-loop-i-init c = ap (λ t. t ++ lines_of_outputs c.args.outputs.steps 0 (take c.args.outputs.count c.args.outputs.places)) c.in-ok-text.ensures.ok
+loop-i-init c = ap (λ t. t ++ lines_of_outputs c.args.outputs.steps 0 (take c.args.outputs.count c.args.outputs.places)) c.in_ok-text.ensures.ok
 
 pub loop-i-preserved : goal.loop-i-preserved
 loop-i-preserved c =
@@ -16,8 +16,8 @@ loop-i-preserved c =
     let l = length-take-le o.count o.places u in
     let h : i < length (take o.count o.places) = omega (arith, l, c.loop-i-test.true) in
     let f : SFits w32 (get_or o.places i (pos 0)) = search rules in
-    let e : string_bytes c.in-ok-line.line ≡ line_of_output i (get_or o.places i (pos 0)) o.steps = simp to_z-of_z at c.in-ok-line.ensures.answer in
-    let b = c.in-ok-push-str.ensures.bytes ∙ ap (λ t. string_bytes c.loop-i.text ++ t) (c.as-str.ensures.value ∙ e) in
+    let e : string_bytes c.in_ok-line.line ≡ line_of_output i (get_or o.places i (pos 0)) o.steps = simp to_z-of_z at c.in_ok-line.ensures.answer in
+    let b = c.in_ok-push_str.ensures.bytes ∙ ap (λ t. string_bytes c.loop-i.text ++ t) (c.as_str.ensures.value ∙ e) in
     ap (λ t. t ++ lines_of_outputs o.steps (i + 1) (drop (i + 1) (take o.count o.places))) b
     ∙ lines_more o.steps i (take o.count o.places) (string_bytes c.loop-i.text) c.loop-i.invariant (get_or o.places i (pos 0)) h (get_or-take o.count o.places i (pos 0) c.loop-i-test.true)
 

@@ -2,15 +2,15 @@ use Rattle.std.proofs.Common.{◌<◌, ◌≤◌, length, arith}
 use Rattle.trace.proofs.Reading.{help_found, help_later, help_none}
 use Rattle.trace.proofs.reader.asks_help.Goals as goal
 
-pub returns-then-is-help : goal.returns-then-is-help
-returns-then-is-help c =
+pub returns-then-is_help : goal.returns-then-is_help
+returns-then-is_help c =
     let l : c.loop-word.word-index < length c.args.words.now = omega arith in
-    record { answer = help_found _ _ _ _ l c.word-item.is c.as-str.ensures.value c.if-is-help.ensures.answer c.loop-word.invariant }
+    record { answer = help_found _ _ _ _ l c.word-item.is c.as_str.ensures.value c.if-is_help.ensures.answer c.loop-word.invariant }
 
 pub loop-word-preserved : goal.loop-word-preserved
 loop-word-preserved c =
     let l : c.loop-word.word-index < length c.args.words.now = omega arith in
-    help_later _ _ _ _ l c.word-item.is c.as-str.ensures.value c.if-is-help.ensures.answer c.loop-word.invariant
+    help_later _ _ _ _ l c.word-item.is c.as_str.ensures.value c.if-is_help.ensures.answer c.loop-word.invariant
 
 pub returns : goal.returns
 returns c =

@@ -5,16 +5,16 @@ use Rattle.trace.proofs.reader.read_request.Goals as goal
 pub returns-in-Err : goal.returns-in-Err
 returns-in-Err c =
     let l : c.loop-word.word-index < length c.args.words.now = omega arith in
-    let bytes = c.in-ok-word.ensures.ok ∙ c.as-str-in-Err.ensures.value in
+    let bytes = c.in_ok-word-in-Err.ensures.ok ∙ c.as_str-in-Err.ensures.value in
     record {
-      answer = word_misfits _ _ _ _ _ _ l c.word-item.is c.as-str.ensures.value c.in-Err.ensures.answer c.loop-word.invariant
-          ∙ ap (λ bs. Err (c.in-Err.misfit, bs)) (c.as-str.ensures.value ∙ sym bytes);
+      answer = word_misfits _ _ _ _ _ _ l c.word-item.is c.as_str.ensures.value c.in-Err.ensures.answer c.loop-word.invariant
+          ∙ ap (λ bs. Err (c.in-Err.misfit, bs)) (c.as_str.ensures.value ∙ sym bytes);
     }
 
 pub loop-word-preserved : goal.loop-word-preserved
 loop-word-preserved c =
     let l : c.loop-word.word-index < length c.args.words.now = omega arith in
-    word_fits _ _ _ _ _ _ l c.word-item.is c.as-str.ensures.value c.in-Ok.ensures.answer c.loop-word.invariant
+    word_fits _ _ _ _ _ _ l c.word-item.is c.as_str.ensures.value c.in-Ok.ensures.answer c.loop-word.invariant
 
 pub returns-in-Ok-finish : goal.returns-in-Ok-finish
 returns-in-Ok-finish c =
