@@ -1,5 +1,5 @@
 -- Where an accepted pass ends: both modes spend their register to within a slack.
-use Rattle.std.proofs.Common.{◌≡◌, ℕ, suc, ◌+◌, ◌-◌, ◌*◌, ◌/◌, ◌^◌, ◌≤◌, Bool, true, false, cond, ◌||◌, ltb, List, [], ◌∷◌, length, ℤ, pos, negsuc, ◌+ℤ◌, ◌-ℤ◌, nat_abs, ◌≤ℤ◌, Some, None, Option, sym, refl, ap, ◌∙◌, subst, add-zero, add-one, arith}
+use Rattle.std.proofs.Common.{◌≡◌, ℕ, suc, ◌+◌, ◌-◌, ◌*◌, ◌/◌, ◌^◌, ◌≤◌, Bool, true, false, cond, ◌||◌, List, [], ◌∷◌, length, ℤ, pos, negsuc, ◌+ℤ◌, ◌-ℤ◌, nat_abs, ◌≤ℤ◌, Some, None, refl, ap, ◌∙◌, add-zero, add-one, arith}
 use lib.Signed.{lt_z}
 use Rattle.std.proofs.lemmas.Nat.{shr-shr}
 use Rattle.std.proofs.lemmas.Int.{ints}
@@ -10,18 +10,16 @@ use Rattle.stage.specs.Stage.{Rule}
 use Rattle.stage.specs.declared.registers.Triple.{Triple}
 use Rattle.stage.specs.declared.step.System.{System}
 use Rattle.stage.specs.declared.step.System.TheVariants.{Linear}
-use Rattle.stage.specs.declared.step.Direction.TheVariants.{Plus, Minus}
+use Rattle.stage.specs.declared.step.Direction.TheVariants.{Plus}
 use Rattle.cordic.specs.Mode.{sign, opposed}
 use Rattle.cordic.specs.Order.{total, Covered}
 use Rattle.cordic.specs.Outcome.{State, AtEnd}
 use Rattle.cordic.specs.Tables.{linear}
-use Rattle.cordic.specs.Unit.{beyond, span, limit, steep, refusal, told, passed}
-use Rattle.cordic.specs.declared.mode.Mode.{Mode}
+use Rattle.cordic.specs.Unit.{beyond, limit, steep, refusal, told, passed}
 use Rattle.cordic.specs.declared.mode.Mode.TheVariants.{Rotation, Vectoring}
 use Rattle.cordic.specs.declared.order.Iteration.{Iteration}
 use Rattle.cordic.specs.declared.faults.Cause.{Cause}
 use Rattle.cordic.specs.declared.faults.Cause.TheVariants.{Unreachable, BadStart}
-use Rattle.cordic.specs.declared.faults.UnitFault.{UnitFault}
 use Rattle.cordic.proofs.Holds.{holds_end}
 use Rattle.cordic.proofs.Moved.{moved, entries, parts_of, RisingFrom, total_is, span_is}
 use Rattle.cordic.proofs.Passes.{Passes, Fails, passes}

@@ -1,5 +1,5 @@
 -- What holds of a part of a run, whichever way it ends; and of parts put together.
-use Rattle.std.proofs.Common.{◌≡◌, ℕ, ◌+◌, refl, subst}
+use Rattle.std.proofs.Common.{◌≡◌, ℕ, ◌+◌, subst}
 use Rattle.stage.specs.declared.registers.Triple.{Triple}
 use Rattle.cordic.specs.Outcome.{State, Out, went, stopped, counted, onward, mapped, inside, AtEnd}
 use Rattle.cordic.specs.Unit.{read_out}

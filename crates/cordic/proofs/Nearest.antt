@@ -1,5 +1,5 @@
 -- A table's rule at each of its entries, from one test over the table that antt computes.
-use Rattle.std.proofs.Common.{◌≡◌, ℕ, zero, suc, ◌+◌, ◌-◌, ◌*◌, ◌^◌, Bool, true, false, ◌&&◌, T, eqb, List, [], ◌∷◌, ℤ, pos, ◌+ℤ◌, ◌-ℤ◌, ◌*ℤ◌, ◌<ℤ◌, Some, None, Option, arith, eqb→eq}
+use Rattle.std.proofs.Common.{◌≡◌, ℕ, zero, suc, ◌-◌, ◌^◌, Bool, true, false, ◌&&◌, T, eqb, List, [], ◌∷◌, pos, ◌+ℤ◌, ◌-ℤ◌, ◌*ℤ◌, Option, eqb→eq}
 use lib.Signed.{lt_z, lt_z_yes}
 use Rattle.cordic.specs.Order.{nth}
 use Rattle.cordic.specs.Series.{Fraction, plus, term, atan_sum, atanh_sum, Nearest, NearAtan, NearAtanh, PowerEntry, OfEntry}

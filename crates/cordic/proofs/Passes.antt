@@ -1,12 +1,11 @@
 -- What a pass comes to: the recurrence with no bound, where it is accepted.
-use Rattle.std.proofs.Common.{◌≡◌, ℕ, suc, ◌+◌, ◌*◌, ◌^◌, ◌<◌, ◌≤◌, Bool, true, false, cond, ◌&&◌, T, leb, List, [], ◌∷◌, length, ℤ, pos, negsuc, nat_abs, Some, None, Option, sym, refl, ap, ◌∙◌, subst, zero-add, one-add, arith, le→leb}
-use lib.Signed.{le_z}
+use Rattle.std.proofs.Common.{◌≡◌, ℕ, ◌+◌, ◌^◌, ◌<◌, Bool, true, false, T, leb, List, [], ◌∷◌, length, ℤ, pos, negsuc, nat_abs, Some, None, Option, sym, refl, subst, zero-add, one-add, arith, le→leb}
 use Rattle.stage.specs.Word.{is_word}
 use Rattle.stage.specs.Step.{turned, escaped, judged, stepped}
-use Rattle.stage.specs.Stage.{Call, steps, loads, Rule}
-use Rattle.cordic.specs.Outcome.{State, Out, went, stopped, onward, inside}
+use Rattle.stage.specs.Stage.{steps, loads, Rule}
+use Rattle.cordic.specs.Outcome.{State, onward}
 use Rattle.cordic.specs.declared.order.Iteration.{Iteration}
-use Rattle.cordic.specs.Unit.{told, took_by, took, ran, overflowed, unit_fault, loaded_by, loaded, refusal, unit_ran, read_out, passed, Escapes}
+use Rattle.cordic.specs.Unit.{told, took_by, ran, overflowed, unit_fault, loaded_by, refusal, unit_ran, read_out, passed, Escapes}
 use Rattle.stage.specs.declared.registers.Triple.{Triple}
 use Rattle.stage.specs.declared.registers.Register.{Register}
 use Rattle.stage.specs.declared.step.System.{System}
@@ -14,7 +13,6 @@ use Rattle.cordic.specs.declared.mode.Mode.{Mode}
 use Rattle.stage.specs.declared.step.Step.{Step}
 use Rattle.stage.specs.declared.step.Overflow.{Overflow}
 use Rattle.cordic.specs.declared.faults.Cause.{Cause}
-use Rattle.cordic.specs.declared.faults.Cause.TheVariants.{Unreachable, BadStart, Overflowed}
 use Rattle.cordic.specs.declared.faults.UnitFault.{UnitFault}
 use Rattle.cordic.proofs.Holds.{Said, Holds, Later, Never, holds_counted, holds_inside, holds_read, holds_less}
 use Rattle.cordic.proofs.Moved.{moved, Always, always_now}

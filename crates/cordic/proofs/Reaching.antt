@@ -1,5 +1,5 @@
 -- Some choice of directions leaves at most one unit of an angle exactly where the angle is at most the sum of the entries plus 1.
-use Rattle.std.proofs.Common.{◌≡◌, ℕ, suc, ◌+◌, ◌≤◌, true, false, List, [], ◌∷◌, ℤ, pos, ◌-ℤ◌, neg_ℤ, nat_abs, refl, ap, arith}
+use Rattle.std.proofs.Common.{◌≡◌, suc, ◌+◌, ◌≤◌, true, false, List, [], ◌∷◌, ℤ, pos, ◌-ℤ◌, neg_ℤ, nat_abs, refl, ap, arith}
 use Rattle.std.proofs.lemmas.Int.{ints}
 use Rattle.std.proofs.lemmas.Bool.{ltb-true, ltb-false}
 use Rattle.stage.specs.Step.{signed}

@@ -1,9 +1,8 @@
 -- The number of every fault of the unit, and what it carries.
 --   reported   the number: 5, no choice of directions reaches the angle; 6, vectoring cannot start there; 7, a register would leave
 --              the word; system, mode and the steps accepted before; of 7 also the step from 1, the register and the old triple
-use Rattle.std.specs.Prelude.{ℕ, Some, None, Option}
+use Rattle.std.specs.Prelude.{ℕ, Some, None}
 use Rattle.stage.specs.declared.step.System.{System}
-use Rattle.stage.specs.declared.step.Overflow.{Overflow}
 use Rattle.cordic.specs.declared.mode.Mode.{Mode}
 use Rattle.cordic.specs.declared.faults.Cause.{Cause}
 use Rattle.cordic.specs.declared.faults.Cause.TheVariants.{Unreachable, BadStart, Overflowed}

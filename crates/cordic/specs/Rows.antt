@@ -9,7 +9,7 @@ use Rattle.stage.specs.declared.registers.Register.TheVariants.{Y}
 use Rattle.stage.specs.declared.step.System.{System}
 use Rattle.stage.specs.declared.step.System.TheVariants.{Linear, Circular, Hyperbolic}
 use Rattle.cordic.specs.Faults.{reported}
-use Rattle.cordic.specs.Outcome.{State, Out, went, stopped}
+use Rattle.cordic.specs.Outcome.{Out, went, stopped}
 use Rattle.cordic.specs.Tables.{order}
 use Rattle.cordic.specs.Unit.{passed}
 use Rattle.cordic.specs.declared.mode.Mode.{Mode}

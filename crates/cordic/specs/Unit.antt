@@ -7,7 +7,7 @@
 --   unit_ran   the run of a loaded unit
 --   passed    a load, its run and the read-out
 --   Escapes   what the refusal of a step says
-use Rattle.std.specs.Prelude.{◌≡◌, ℕ, ◌+◌, ◌*◌, Bool, true, false, cond, ◌||◌, List, [], ◌∷◌, ℤ, pos, ◌+ℤ◌, ◌*ℤ◌, Some, None, Ok, Err, Option, Result, int_lt, nat_lt, unsigned_abs}
+use Rattle.std.specs.Prelude.{◌≡◌, ℕ, ◌+◌, ◌*◌, Bool, false, cond, ◌||◌, List, [], ◌∷◌, ℤ, pos, ◌+ℤ◌, ◌*ℤ◌, Some, None, Ok, Err, Option, Result, int_lt, nat_lt, unsigned_abs}
 use Rattle.stage.specs.Word.{shifted}
 use Rattle.stage.specs.Step.{stepped}
 use Rattle.stage.specs.Stage.{loads, steps, Rule}

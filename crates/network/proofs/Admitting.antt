@@ -1,12 +1,11 @@
 -- The checks before the arithmetic, as the code makes them.
-use Rattle.std.proofs.Common.{◌≡◌, ℕ, ◌<◌, ◌≤◌, List, [], ◌∷◌, map, length, ℤ, Some, Ok, Err, Option, Result, sym, refl, ap, ◌∙◌, arith}
+use Rattle.std.proofs.Common.{◌≡◌, ℕ, ◌<◌, ◌≤◌, List, [], ◌∷◌, length, ℤ, Some, Ok, Err, Option, sym, ap, ◌∙◌, arith}
 use Rattle.std.proofs.lemmas.List.{length-map}
 use Rattle.std.specs.List.{AllByRecursion as All}
 use Rattle.std.proofs.lemmas.Bool.{le-ltb, eq-eqb}
 use Rattle.cordic.specs.Outcome.{stopped}
-use Rattle.network.specs.Admitted.{Admitted, Admits}
+use Rattle.network.specs.Admitted.{Admitted}
 use Rattle.network.specs.Bank.{words_of}
-use Rattle.network.specs.Gathered.{gathered}
 use Rattle.network.specs.Network.{Sized, Describes}
 use Rattle.network.specs.Plan.{LayerOf, plan_of}
 use Rattle.network.specs.Run.{Feed, layers, words, entrance, exits, sampled, checked, recurrence}

@@ -7,7 +7,7 @@ use Rattle.network.specs.Bank.{words_of}
 use Rattle.network.specs.Neuron.{Working}
 use Rattle.network.specs.Plain.{lasts, flown}
 use Rattle.network.specs.Plan.{LayerOf}
-use Rattle.network.specs.Run.{Feed, output, layers, finals, exits, recurrence, outputs, written}
+use Rattle.network.specs.Run.{Feed, output, layers, finals, recurrence, outputs, written}
 use Rattle.network.specs.Walk.{layers_of}
 use Rattle.network.specs.declared.bank.Bank.{Bank}
 use Rattle.network.specs.declared.faults.NetworkFault.{NetworkFault}

@@ -1,10 +1,8 @@
 -- What a linear rotation leaves and sums, and what a linear vectoring divides.
-use Rattle.std.proofs.Common.{◌≡◌, ℕ, zero, suc, ◌+◌, ◌-◌, ◌*◌, ◌/◌, ◌^◌, ◌<◌, ◌≤◌, List, [], ◌∷◌, length, ℤ, pos, negsuc, ◌+ℤ◌, ◌-ℤ◌, ◌*ℤ◌, neg_ℤ, nat_abs, ◌≤ℤ◌, sym, refl, ap, ◌∙◌, subst, mul-le-mul_left, div-one, arith, lit<, lit≤}
+use Rattle.std.proofs.Common.{ℕ, ◌+◌, ◌*◌, ◌/◌, ◌^◌, ◌<◌, ◌≤◌, ℤ, pos, ◌+ℤ◌, ◌-ℤ◌, ◌*ℤ◌, nat_abs, ◌≤ℤ◌, refl, mul-le-mul_left, div-one, arith, lit<}
 use Rattle.std.proofs.lemmas.Int.{ints}
-use Rattle.cordic.specs.declared.order.Iteration.{Iteration}
 use Rattle.cordic.specs.Tables.{linear}
 use Rattle.stage.specs.declared.registers.Triple.{Triple}
-use Rattle.stage.specs.declared.step.System.{System}
 use Rattle.stage.specs.declared.step.System.TheVariants.{Linear}
 use Rattle.cordic.specs.declared.mode.Mode.TheVariants.{Rotation, Vectoring}
 use Rattle.network.proofs.Ring.{ring, times_abs, abs_times}

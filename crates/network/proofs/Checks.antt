@@ -1,11 +1,10 @@
 -- The checks of a run, one after another.
-use Rattle.std.proofs.Common.{◌≡◌, ℕ, zero, suc, ◌+◌, ◌-◌, ◌<◌, ◌≤◌, Bool, true, false, cond, eqb, ltb, ◌⊎◌, List, [], ◌∷◌, ◌++◌, map, length, get_or, drop, ℤ, Some, None, Ok, Err, Option, Result, sym, refl, ap, ◌∙◌, subst, inl, inr, zero-add, arith}
+use Rattle.std.proofs.Common.{◌≡◌, ℕ, ◌+◌, ◌≤◌, Bool, true, false, cond, eqb, ltb, ◌⊎◌, List, length, ℤ, Ok, Err, Result, sym, refl, ap, ◌∙◌, subst, inl, inr, zero-add, arith}
 use Rattle.std.proofs.lemmas.Bool.{eqb-true, eqb-false, eq-eqb, ne_eqb, lt-ltb, ltb-true, ltb-false, le-ltb}
-use Rattle.stage.specs.Stage.{Rule}
-use Rattle.cordic.specs.Outcome.{State, Out, went, stopped}
-use Rattle.network.specs.Neuron.{Working, Neuron}
-use Rattle.network.specs.Plan.{LayerOf, plan_of, has_bad_length, records}
-use Rattle.network.specs.Run.{Feed, layers, words, entrance, exits, sampled, checked, recurrence, outputs, written}
+use Rattle.cordic.specs.Outcome.{State, went, stopped}
+use Rattle.network.specs.Neuron.{Working}
+use Rattle.network.specs.Plan.{LayerOf, plan_of, has_bad_length}
+use Rattle.network.specs.Run.{Feed, layers, words, entrance, exits, sampled, checked, recurrence}
 use Rattle.network.specs.Refusals.{Explained, Barred as Ranked}
 use Rattle.network.specs.declared.faults.Located.{Located}
 use Rattle.network.specs.declared.faults.NetworkFault.{NetworkFault}

@@ -1,5 +1,5 @@
 -- The whole claim of a run whose code agrees with the recurrence.
-use Rattle.std.proofs.Common.{◌≡◌, ℕ, ◌*◌, ◌<◌, Bool, true, false, cond, List, ℤ, Some, None, sym, refl, ap, ◌∙◌, arith}
+use Rattle.std.proofs.Common.{◌≡◌, ℕ, ◌*◌, ◌<◌, Bool, true, false, cond, List, ℤ, Some, None, refl, ap, ◌∙◌, arith}
 use Rattle.std.specs.List.{AllByRecursion as All}
 use Rattle.stage.specs.Stage.{Rule}
 use Rattle.stage.specs.declared.registers.Triple.{Triple}

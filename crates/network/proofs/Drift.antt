@@ -1,5 +1,5 @@
 -- In the linear system n·y + x·z stays, but for less than n in each step.
-use Rattle.std.proofs.Common.{◌≡◌, ℕ, zero, suc, ◌+◌, ◌*◌, ◌/◌, ◌%◌, ◌^◌, ◌<◌, ◌≤◌, List, [], ◌∷◌, length, ℤ, pos, negsuc, ◌+ℤ◌, ◌-ℤ◌, ◌*ℤ◌, neg_ℤ, nat_abs, sym, refl, ap, ◌∙◌, subst, mul-le-mul_right, mul-zero, arith}
+use Rattle.std.proofs.Common.{◌≡◌, ℕ, zero, suc, ◌+◌, ◌*◌, ◌/◌, ◌%◌, ◌^◌, ◌<◌, ◌≤◌, List, [], ◌∷◌, length, ℤ, pos, negsuc, ◌+ℤ◌, ◌-ℤ◌, ◌*ℤ◌, nat_abs, sym, refl, ap, ◌∙◌, subst, mul-le-mul_right, mul-zero, arith}
 use lib.IntN.{neg_ℤ-neg_ℤ}
 use Rattle.std.proofs.lemmas.Int.{ints}
 use Rattle.std.proofs.lemmas.Nat.{pow_pos, div-add-mod', mod_below}
@@ -13,7 +13,7 @@ use Rattle.stage.specs.declared.step.System.TheVariants.{Linear}
 use Rattle.cordic.specs.declared.mode.Mode.{Mode}
 use Rattle.stage.specs.declared.step.Direction.{Direction}
 use Rattle.stage.specs.declared.step.Direction.TheVariants.{Plus, Minus}
-use Rattle.network.proofs.Ring.{ring, mul_plus, mul_neg}
+use Rattle.network.proofs.Ring.{ring}
 use Rattle.cordic.proofs.Ends.{minus_zero}
 use Rattle.cordic.proofs.Moved.{moved}
 use Rattle.network.proofs.Systems.{Exact}

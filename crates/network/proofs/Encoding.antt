@@ -1,18 +1,16 @@
 -- Records and their bytes, and the law of plans.
-use Rattle.std.proofs.Common.{◌≡◌, ℕ, ◌+◌, ◌*◌, ◌/◌, ◌%◌, ◌^◌, ◌<◌, ◌≤◌, Bool, true, false, cond, List, [], ◌∷◌, ◌++◌, length, get_or, ℤ, pos, Ok, Err, Result, sym, refl, ap, ◌∙◌, subst, arith, w8, w32, Fits, SFits, to_z, of_z}
+use Rattle.std.proofs.Common.{◌≡◌, ℕ, ◌+◌, ◌*◌, ◌/◌, ◌%◌, ◌^◌, ◌<◌, ◌≤◌, Bool, true, false, cond, List, [], ◌∷◌, ◌++◌, length, get_or, Ok, Err, Result, sym, refl, ap, ◌∙◌, subst, arith, w8, w32, Fits, SFits, to_z, of_z}
 use Rattle.std.proofs.ByRecursion.{All-from_get_or}
 use Rattle.std.specs.List.{flat_map, AllByRecursion as All}
-use Rattle.std.proofs.lemmas.Bool.{cond-true}
 use Rattle.std.proofs.lemmas.Bool.Decides.{nat_tests}
 use Rattle.std.proofs.lemmas.Int.{ints, to_z-of_z, of_z-to_z}
-use Rattle.std.proofs.lemmas.List.{length-append}
 use Rattle.network.specs.declared.record.Record.{Record}
 use Rattle.network.specs.declared.next.Next.TheVariants.{Layer}
 use Rattle.network.specs.declared.faults.NetworkFault.{NetworkFault}
-use Rattle.network.specs.declared.faults.NetworkFault.TheVariants.{NoSample, SampleCount, PlanLength, PlanRecord, Arithmetic, Places}
+use Rattle.network.specs.declared.faults.NetworkFault.TheVariants.{PlanLength}
 use Rattle.network.specs.Plan.{record_of, records, LayerOf, Tail, parse, described, has_bad_length, plan_of}
-use Rattle.network.specs.Network.{layer_records, WellFormed, word_bytes, record_bytes, encode, Describes}
-use Rattle.network.proofs.Law.{Chain, records_for, describes, accepted}
+use Rattle.network.specs.Network.{layer_records, word_bytes, record_bytes, Describes}
+use Rattle.network.proofs.Law.{Chain, describes, accepted}
 use Rattle.network.proofs.Shapes.{chain_shaped, shaped_chain, words_to, words_from}
 
 abbrev big : ℕ → ℕ → ℕ → ℕ → ℕ

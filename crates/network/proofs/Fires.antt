@@ -1,5 +1,5 @@
 -- A neuron in code: the net, then the activation.
-use Rattle.std.proofs.Common.{◌≡◌, ℕ, ◌+◌, ◌*◌, ◌≤◌, List, length, ℤ, Some, None, Option, Result, sym, refl, ap, ◌∙◌, add-zero, arith}
+use Rattle.std.proofs.Common.{◌≡◌, ℕ, ◌*◌, ◌≤◌, List, length, ℤ, Some, None, Option, Result, refl, add-zero, arith}
 use Rattle.stage.specs.Stage.{Rule}
 use Rattle.stage.specs.declared.stage.Stage.{Ghosts}
 use Rattle.cordic.specs.Outcome.{State, Out, went, stopped, counted, onward, mapped, inside, steps_in}
@@ -7,7 +7,7 @@ use Rattle.cordic.specs.Seen.{seen}
 use Rattle.cordic.specs.declared.faults.UnitFault.{UnitFault}
 use Rattle.cordic.specs.declared.states.Answer.{Answer}
 use Rattle.cordic.specs.declared.states.Refused.{Refused}
-use Rattle.network.specs.Neuron.{Neuron, Net, Quotient, Working, products, tanh, squashed, activated, neuron_fault, fired}
+use Rattle.network.specs.Neuron.{Neuron, Net, Quotient, products, tanh, squashed, activated, neuron_fault, fired}
 use Rattle.network.specs.Placing.{in_neuron, steps_made}
 use Rattle.network.specs.Plain.{net_value, netted, in_product}
 use Rattle.network.specs.Run.{output}

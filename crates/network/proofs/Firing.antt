@@ -1,12 +1,12 @@
 -- Neurons, layers and networks: what an accepted run comes to, and what stops one.
-use Rattle.std.proofs.Common.{◌≡◌, ℕ, zero, suc, ◌+◌, ◌*◌, ◌^◌, ◌<◌, ◌≤◌, List, [], ◌∷◌, map, length, ℤ, Some, None, Option, sym, refl, ap, ◌∙◌, subst, add-zero, zero-add, arith}
+use Rattle.std.proofs.Common.{◌≡◌, ℕ, suc, ◌+◌, ◌*◌, ◌≤◌, List, [], ◌∷◌, map, length, ℤ, Some, None, Option, sym, refl, ap, ◌∙◌, subst, add-zero, zero-add, arith}
 use Rattle.std.specs.List.{AllByRecursion as All}
 use Rattle.stage.specs.Stage.{Rule}
 use Rattle.stage.specs.declared.step.Overflow.{Overflow}
 use Rattle.stage.specs.declared.step.System.TheVariants.{Linear, Hyperbolic}
 use Rattle.cordic.specs.Faults.{reported}
 use Rattle.cordic.specs.Order.{Reachable}
-use Rattle.cordic.specs.Outcome.{State, Out, went, stopped, onward, mapped, inside}
+use Rattle.cordic.specs.Outcome.{State, went, stopped, onward, mapped, inside}
 use Rattle.cordic.specs.Tables.{linear, hyperbolic}
 use Rattle.cordic.specs.Unit.{unit_fault, overflowed, Escapes}
 use Rattle.cordic.specs.declared.mode.Mode.TheVariants.{Rotation}
@@ -18,7 +18,7 @@ use Rattle.network.specs.Plan.{LayerOf}
 use Rattle.network.specs.Network.{Sized, Follows, Chained, Shaped}
 use Rattle.network.specs.Run.{output, located, layer, layers, entrance, cost_of, neuron_cost, cost}
 use Rattle.network.specs.Laws.{Output, Bounded, Fires, Chains}
-use Rattle.network.specs.Refusals.{place, Weighs, InArithmetic, weight, net, register}
+use Rattle.network.specs.Refusals.{place, InArithmetic, weight, net, register}
 use Rattle.network.specs.declared.activation.Activation.{Activation}
 use Rattle.network.specs.declared.activation.Activation.TheVariants.{Identity, Tanh}
 use Rattle.network.specs.declared.faults.NeuronFault.{NeuronFault}

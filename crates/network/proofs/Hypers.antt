@@ -1,7 +1,6 @@
 -- How far a hyperbolic rotation can take x + y and x − y.
-use Rattle.std.proofs.Common.{◌≡◌, ℕ, zero, suc, ◌+◌, ◌-◌, ◌*◌, ◌/◌, ◌%◌, ◌^◌, ◌<◌, ◌≤◌, Bool, true, false, ◌&&◌, T, ltb, leb, List, [], ◌∷◌, ℤ, pos, negsuc, ◌+ℤ◌, ◌-ℤ◌, ◌*ℤ◌, neg_ℤ, nat_abs, ◌≤ℤ◌, ◌<ℤ◌, sym, refl, ap, ◌∙◌, subst, mul-le-mul_left, arith, ltb→lt, leb→le}
+use Rattle.std.proofs.Common.{◌≡◌, ℕ, zero, suc, ◌+◌, ◌-◌, ◌*◌, ◌/◌, ◌^◌, ◌<◌, ◌≤◌, Bool, true, false, ◌&&◌, T, ltb, leb, List, [], ◌∷◌, ℤ, pos, negsuc, ◌+ℤ◌, ◌-ℤ◌, ◌*ℤ◌, neg_ℤ, nat_abs, ◌≤ℤ◌, ◌<ℤ◌, mul-le-mul_left, arith, ltb→lt, leb→le}
 use borrow.Author.Differences.{up, down}
-use lib.IntN.{neg_ℤ-neg_ℤ}
 use lib.Signed.{le_z_yes}
 use Rattle.std.proofs.lemmas.Int.{ints, by_lt_z}
 use Rattle.std.proofs.lemmas.Nat.{pow_pos, div-add-mod', mod_below}
@@ -17,7 +16,7 @@ use Rattle.cordic.specs.declared.mode.Mode.{Mode}
 use Rattle.cordic.specs.declared.mode.Mode.TheVariants.{Rotation}
 use Rattle.stage.specs.declared.step.Direction.{Direction}
 use Rattle.stage.specs.declared.step.Direction.TheVariants.{Plus, Minus}
-use Rattle.network.proofs.Ring.{ring, mul_plus, mul_neg}
+use Rattle.network.proofs.Ring.{mul_plus, mul_neg}
 use Rattle.cordic.proofs.Moved.{moved, Always}
 
 both_left : (a b : Bool) → T (a && b) → T a

@@ -1,15 +1,14 @@
 -- How a run of the layers ends: with as many values as there are neurons, or with an arithmetic fault.
-use Rattle.std.proofs.Common.{◌≡◌, ℕ, suc, ◌+◌, ◌⊎◌, List, [], ◌∷◌, map, length, ℤ, sym, refl, ap, ◌∙◌, subst, inl, inr}
+use Rattle.std.proofs.Common.{◌≡◌, ℕ, suc, ◌+◌, List, [], ◌∷◌, map, length, ℤ, refl, ap, ◌∙◌, inl, inr}
 use Rattle.stage.specs.Stage.{Rule}
-use Rattle.cordic.specs.Outcome.{State, Out, went, stopped, onward, mapped, inside}
+use Rattle.cordic.specs.Outcome.{State, went, stopped, mapped, inside}
 use Rattle.network.specs.Neuron.{Working, Neuron, fired}
 use Rattle.network.specs.Plan.{LayerOf}
 use Rattle.network.specs.Run.{output, located, layer, layers, exits, finals}
 use Rattle.network.specs.declared.faults.Located.{Located}
-use Rattle.network.specs.declared.faults.NeuronFault.{NeuronFault}
 use Rattle.network.specs.declared.faults.NetworkFault.{NetworkFault}
 use Rattle.network.specs.declared.faults.NetworkFault.TheVariants.{Arithmetic}
-use Rattle.network.proofs.Parts.{no, Then, onward_went, onward_stopped, mapped_went, mapped_stopped, inside_stopped}
+use Rattle.network.proofs.Parts.{no, onward_went, onward_stopped, mapped_went, mapped_stopped, inside_stopped}
 
 pub layer_length : (rule : Rule) (l : ℕ) (h : LayerOf) (xs : List ℤ) (j : ℕ) (ns : List Neuron) (s : State) (ws : List Working) (n : ℕ) (u : State) → layer rule l h xs j ns s ≡ went ws n u → length ws ≡ length ns
 unfolding layer

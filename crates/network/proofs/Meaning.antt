@@ -1,5 +1,5 @@
 -- What every run means, accepted or refused: the checks, the plan, the arithmetic and the bounds put together.
-use Rattle.std.proofs.Common.{◌≡◌, ℕ, ◌<◌, List, map, length, ℤ, Some, None, Ok, Option, sym, refl, ap, ◌∙◌, subst}
+use Rattle.std.proofs.Common.{◌≡◌, ℕ, ◌<◌, List, length, ℤ, Some, Ok, sym, refl, ap, ◌∙◌}
 use Rattle.std.proofs.lemmas.List.{length-map}
 use Rattle.cordic.specs.Outcome.{State, Out, went, stopped}
 use Rattle.network.specs.Neuron.{Working}

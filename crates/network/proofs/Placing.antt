@@ -1,7 +1,7 @@
 -- The places after a run.
-use Rattle.std.proofs.Common.{◌≡◌, ℕ, ◌+◌, ◌-◌, ◌<◌, ◌≤◌, List, [], ◌∷◌, ◌++◌, map, length, get_or, drop, ℤ, Some, Ok, sym, refl, ap, ◌∙◌, subst, arith}
+use Rattle.std.proofs.Common.{◌≡◌, ℕ, ◌+◌, ◌-◌, ◌<◌, ◌≤◌, List, ◌++◌, map, length, get_or, drop, ℤ, Some, Ok, sym, refl, ap, ◌∙◌, subst, arith}
 use Rattle.std.proofs.lemmas.List.{length-append, length-drop, length-map, get_or_append_left, get_or-append_right, get_or-drop}
-use Rattle.cordic.specs.Outcome.{State, Out, went, stopped}
+use Rattle.cordic.specs.Outcome.{State, went, stopped}
 use Rattle.network.specs.Neuron.{Working}
 use Rattle.network.specs.Plan.{LayerOf, plan_of}
 use Rattle.network.specs.Run.{Feed, output, exits, finals, layers, recurrence, outputs, written, words, entrance}

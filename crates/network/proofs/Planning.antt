@@ -4,9 +4,9 @@ use Rattle.std.proofs.lemmas.Bool.{cases_order}
 use Rattle.network.specs.declared.record.Record.{Record}
 use Rattle.network.specs.declared.next.Next.TheVariants.{Layer}
 use Rattle.network.specs.declared.faults.NetworkFault.{NetworkFault}
-use Rattle.network.specs.declared.faults.NetworkFault.TheVariants.{NoSample, SampleCount, PlanLength, PlanRecord, Arithmetic, Places}
+use Rattle.network.specs.declared.faults.NetworkFault.TheVariants.{PlanLength, PlanRecord}
 use Rattle.network.specs.Plan.{LayerOf, Tail, records, parse, described, has_bad_length, plan_of}
-use Rattle.network.specs.Network.{layer_records, Shaped, Begins, BreaksAt}
+use Rattle.network.specs.Network.{layer_records, Shaped, BreaksAt}
 use Rattle.network.proofs.Parts.{no}
 use Rattle.network.proofs.Law.{Chain, describes}
 use Rattle.network.proofs.Shapes.{chain_shaped}

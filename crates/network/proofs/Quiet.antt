@@ -1,25 +1,17 @@
 -- Each part of a network run, with the notes left out, is that part on a stage that notes nothing.
-use Rattle.std.proofs.Common.{◌≡◌, ℕ, ◌+◌, Bool, true, false, cond, eqb, ltb, List, [], ◌∷◌, map, length, ℤ, pos, Some, None, Ok, Err, Option, Result, sym, refl, ap, ◌∙◌}
-use Rattle.stage.specs.Step.{stepped}
+use Rattle.std.proofs.Common.{◌≡◌, ℕ, ◌+◌, Bool, true, false, cond, eqb, ltb, List, [], ◌∷◌, map, length, ℤ, pos, Some, None, Ok, Err, Result, sym, refl, ap, ◌∙◌}
 use Rattle.stage.specs.Stage.{Rule, silent}
-use Rattle.cordic.specs.Outcome.{State, Out, went, stopped, counted, onward, mapped, inside, bare}
-use Rattle.cordic.specs.declared.order.Iteration.{Iteration}
+use Rattle.cordic.specs.Outcome.{State, Out, mapped, inside, bare}
 use Rattle.cordic.specs.Tables.{linear, hyperbolic}
-use Rattle.cordic.specs.Unit.{took_by, took, told, ran, loaded_by, loaded, refusal, read_out, passed, overflowed}
-use Rattle.network.specs.Neuron.{Neuron, Net, Working, Quotient, products, tanh, activated, fired, start, term, before, squashed, neuron_fault}
+use Rattle.cordic.specs.Unit.{passed}
+use Rattle.network.specs.Neuron.{Neuron, Net, products, tanh, activated, fired, start, term, before, squashed, neuron_fault}
 use Rattle.network.specs.Plan.{LayerOf, plan_of}
 use Rattle.network.specs.Run.{Feed, output, located, layer, layers, words, sampled, checked, recurrence, exits, entrance}
 use Rattle.network.specs.Claim.{otherwise}
-use Rattle.stage.specs.declared.registers.Triple.{Triple}
-use Rattle.stage.specs.declared.step.System.{System}
 use Rattle.stage.specs.declared.step.System.TheVariants.{Linear, Hyperbolic}
-use Rattle.cordic.specs.declared.mode.Mode.{Mode}
 use Rattle.cordic.specs.declared.mode.Mode.TheVariants.{Rotation, Vectoring}
-use Rattle.stage.specs.declared.step.Step.{Step}
 use Rattle.network.specs.declared.activation.Activation.{Activation}
 use Rattle.network.specs.declared.activation.Activation.TheVariants.{Identity, Tanh}
-use Rattle.stage.specs.declared.step.Overflow.{Overflow}
-use Rattle.cordic.specs.declared.faults.Cause.{Cause}
 use Rattle.network.specs.declared.faults.NetworkFault.{NetworkFault}
 use Rattle.cordic.proofs.Bare.{blank, bare_mapped, bare_inside, bare_onward, bare_passed}
 

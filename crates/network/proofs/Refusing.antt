@@ -1,5 +1,5 @@
 -- A plan that is refused at a record: that record is the first that breaks it, or that is missing.
-use Rattle.std.proofs.Common.{◌≡◌, ℕ, zero, suc, ◌+◌, ◌-◌, ◌<◌, ◌≤◌, Bool, true, false, cond, ◌⊎◌, List, [], ◌∷◌, ◌++◌, length, take, replicate, ℤ, pos, Some, None, Ok, Err, Option, Result, sym, refl, ap, ◌∙◌, subst, inl, inr, add-one, arith}
+use Rattle.std.proofs.Common.{◌≡◌, ℕ, zero, suc, ◌+◌, ◌-◌, ◌<◌, ◌≤◌, Bool, true, false, cond, ◌⊎◌, List, [], ◌∷◌, length, take, replicate, pos, Some, None, Ok, Err, Option, Result, sym, refl, ap, ◌∙◌, subst, inl, inr, add-one, arith}
 use Rattle.std.specs.List.{AllByRecursion as All}
 use Rattle.std.proofs.lemmas.List.{length-replicate}
 use Rattle.std.proofs.lemmas.Bool.Decides.{nat_tests}
@@ -8,10 +8,10 @@ use Rattle.network.specs.declared.next.Next.{Next}
 use Rattle.network.specs.declared.next.Next.TheVariants.{Layer, Bias, Weight}
 use Rattle.network.specs.declared.activation.Activation.TheVariants.{Identity}
 use Rattle.network.specs.declared.faults.NetworkFault.{NetworkFault}
-use Rattle.network.specs.declared.faults.NetworkFault.TheVariants.{NoSample, SampleCount, PlanLength, PlanRecord, Arithmetic, Places}
+use Rattle.network.specs.declared.faults.NetworkFault.TheVariants.{PlanLength, PlanRecord}
 use Rattle.network.specs.Neuron.{Neuron}
 use Rattle.network.specs.Plan.{records, accept, ends, LayerOf, Tail, onto, carry, follow, ended, parse, described, has_bad_length, plan_of}
-use Rattle.network.specs.Network.{layer_records, Begins, BreaksAt}
+use Rattle.network.specs.Network.{BreaksAt}
 use Rattle.network.specs.Walk.{Sound}
 use Rattle.network.proofs.Walking.{sound_more}
 use Rattle.network.proofs.Shapes.{chain_shaped, shaped_chain}

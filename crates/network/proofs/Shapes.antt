@@ -1,11 +1,11 @@
 -- The walk's own account of a network's shape is the network's.
-use Rattle.std.proofs.Common.{◌≡◌, ℕ, ◌+◌, ◌-◌, ◌^◌, ◌<◌, ◌≤◌, ◌⊎◌, List, [], ◌∷◌, ◌++◌, length, ℤ, pos, refl, inl, inr, arith, w32, SFits}
+use Rattle.std.proofs.Common.{◌≡◌, ℕ, ◌+◌, ◌-◌, ◌<◌, ◌≤◌, ◌⊎◌, List, [], ◌∷◌, ◌++◌, length, ℤ, pos, refl, inl, inr, arith, w32, SFits}
 use Rattle.std.specs.List.{AllByRecursion as All}
 use Rattle.std.proofs.ByRecursion.{All-append}
 use Rattle.network.specs.declared.record.Record.{Record}
 use Rattle.network.specs.Neuron.{Neuron}
 use Rattle.network.specs.Plan.{LayerOf}
-use Rattle.network.specs.Network.{weight_records, neuron_records, layer_records, Sized, Follows, Chained, Shaped, Words}
+use Rattle.network.specs.Network.{weight_records, neuron_records, layer_records, Sized, Follows, Shaped, Words}
 use Rattle.network.proofs.Law.{Chain}
 
 pub sized_all : (before left : ℕ) (ls : List LayerOf) → Chain before left ls → All Sized ls

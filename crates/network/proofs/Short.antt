@@ -1,12 +1,11 @@
 -- No part of a run makes more steps than its plan costs.
-use Rattle.std.proofs.Common.{◌≡◌, ℕ, ◌+◌, ◌*◌, ◌≤◌, List, [], ◌∷◌, map, length, ℤ, pos, Some, None, Ok, Err, Option, Result, sym, refl, arith}
-use Rattle.std.specs.List.{AllByRecursion as All}
+use Rattle.std.proofs.Common.{◌≡◌, ℕ, ◌+◌, ◌*◌, ◌≤◌, List, [], ◌∷◌, length, ℤ, pos, Some, Ok, Err, Result, sym, refl, arith}
 use Rattle.stage.specs.Stage.{Rule}
 use Rattle.stage.specs.declared.registers.Triple.{Triple}
 use Rattle.stage.specs.declared.stage.Stage.{Ghosts}
 use Rattle.stage.specs.declared.step.System.{System}
 use Rattle.stage.specs.declared.step.System.TheVariants.{Linear, Hyperbolic}
-use Rattle.cordic.specs.Outcome.{State, Out, went, stopped, onward, mapped, inside, steps_in}
+use Rattle.cordic.specs.Outcome.{State, Out, went, stopped, mapped, inside, steps_in}
 use Rattle.cordic.specs.Seen.{seen}
 use Rattle.cordic.specs.Tables.{linear, hyperbolic}
 use Rattle.cordic.specs.Unit.{passed}
@@ -17,14 +16,14 @@ use Rattle.cordic.specs.declared.faults.UnitFault.{UnitFault}
 use Rattle.cordic.specs.declared.states.Answer.{Answer}
 use Rattle.cordic.specs.declared.states.Refused.{Refused}
 use Rattle.cordic.proofs.Ends.{linear_length}
-use Rattle.cordic.proofs.Holds.{Said, Holds}
+use Rattle.cordic.proofs.Holds.{Holds}
 use Rattle.cordic.proofs.Outs.{onward_short}
 use Rattle.cordic.proofs.Passes.{Passes, Fails, at_load, at_step, passes}
 use Rattle.cordic.proofs.Places.{within}
-use Rattle.network.specs.Neuron.{Neuron, Net, Quotient, start, term, before, products, tanh, squashed, activated, neuron_fault, fired}
+use Rattle.network.specs.Neuron.{Neuron, Net, start, term, before, products, tanh, activated, fired}
 use Rattle.network.specs.Placing.{steps_made}
 use Rattle.network.specs.Plan.{LayerOf}
-use Rattle.network.specs.Run.{output, located, layer}
+use Rattle.network.specs.Run.{located, layer}
 use Rattle.network.specs.declared.activation.Activation.{Activation}
 use Rattle.network.specs.declared.activation.Activation.TheVariants.{Identity, Tanh}
 use Rattle.network.proofs.Systems.{hyperbolic_length}

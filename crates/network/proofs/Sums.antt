@@ -1,14 +1,13 @@
 -- A net: what its products come to.
-use Rattle.std.proofs.Common.{◌≡◌, ℕ, zero, suc, ◌+◌, ◌-◌, ◌*◌, ◌^◌, ◌<◌, ◌≤◌, Bool, true, false, cond, not, T, ltb, List, [], ◌∷◌, map, length, ℤ, pos, ◌+ℤ◌, ◌-ℤ◌, ◌*ℤ◌, nat_abs, Some, None, Option, sym, refl, ap, ◌∙◌, subst, arith, nltb→le}
+use Rattle.std.proofs.Common.{◌≡◌, ℕ, zero, suc, ◌+◌, ◌*◌, ◌^◌, ◌<◌, ◌≤◌, Bool, true, false, cond, not, T, List, [], ◌∷◌, map, length, ℤ, pos, ◌+ℤ◌, ◌-ℤ◌, ◌*ℤ◌, nat_abs, Some, None, sym, refl, ap, ◌∙◌, subst, arith, nltb→le}
 use Rattle.std.proofs.lemmas.Int.{ints}
 use Rattle.std.specs.List.{AllByRecursion as All}
 use Rattle.stage.specs.Stage.{Rule}
-use Rattle.cordic.specs.Outcome.{State, Out, went, stopped, onward, mapped, inside}
-use Rattle.cordic.specs.declared.order.Iteration.{Iteration}
+use Rattle.cordic.specs.Outcome.{State, Out, went, stopped, mapped, inside}
 use Rattle.cordic.specs.Order.{total, Reachable}
 use Rattle.cordic.specs.Tables.{linear}
 use Rattle.cordic.specs.Unit.{beyond, refusal, unit_fault, overflowed, passed, Escapes}
-use Rattle.network.specs.Neuron.{Term, Net, start, term, before, products}
+use Rattle.network.specs.Neuron.{Net, start, term, before, products}
 use Rattle.network.specs.Laws.{exact, budget, Spent}
 use Rattle.network.specs.Refusals.{place}
 use Rattle.stage.specs.declared.registers.Triple.{Triple}
@@ -20,7 +19,6 @@ use Rattle.cordic.specs.declared.faults.Cause.{Cause}
 use Rattle.cordic.specs.declared.faults.Cause.TheVariants.{Unreachable}
 use Rattle.cordic.specs.declared.faults.UnitFault.{UnitFault}
 use Rattle.network.proofs.Ring.{ring}
-use Rattle.cordic.proofs.Moved.{moved}
 use Rattle.cordic.proofs.Ends.{linear_length}
 use Rattle.cordic.proofs.Reaching.{beyond_reach}
 use Rattle.network.proofs.Systems.{linear_total}

@@ -1,12 +1,12 @@
 -- tanh: only its angle can be refused, and its quotient keeps its bound.
-use Rattle.std.proofs.Common.{◌≡◌, ℕ, suc, ◌+◌, ◌-◌, ◌*◌, ◌/◌, ◌^◌, ◌<◌, ◌≤◌, Bool, true, false, cond, not, ◌||◌, T, ltb, leb, List, [], ◌∷◌, length, ℤ, pos, negsuc, ◌+ℤ◌, ◌-ℤ◌, ◌*ℤ◌, nat_abs, ◌≤ℤ◌, ◌<ℤ◌, Some, None, Option, sym, refl, ap, ◌∙◌, subst, div-le_self, arith, lt→ltb, leb→le, nltb→le}
+use Rattle.std.proofs.Common.{◌≡◌, ℕ, ◌+◌, ◌*◌, ◌/◌, ◌^◌, ◌<◌, ◌≤◌, Bool, true, false, cond, not, T, ltb, List, [], ◌∷◌, ℤ, pos, negsuc, ◌-ℤ◌, ◌*ℤ◌, nat_abs, ◌≤ℤ◌, Some, None, sym, refl, ◌∙◌, subst, div-le_self, arith, lt→ltb, nltb→le}
 use lib.Arith.{le→nltb}
-use lib.Signed.{lt_z_yes, lt_z}
+use lib.Signed.{lt_z_yes}
 use Rattle.std.proofs.lemmas.Int.{ints}
 use Rattle.std.specs.List.{AllByRecursion as All}
 use Rattle.stage.specs.Step.{signed, turned}
 use Rattle.stage.specs.Stage.{Rule}
-use Rattle.cordic.specs.Outcome.{State, Out, went, stopped, onward, mapped, inside}
+use Rattle.cordic.specs.Outcome.{State, stopped, mapped}
 use Rattle.cordic.specs.declared.order.Iteration.{Iteration}
 use Rattle.cordic.specs.Order.{total, Reachable}
 use Rattle.cordic.specs.Tables.{linear, hyperbolic}
@@ -22,9 +22,9 @@ use Rattle.cordic.specs.declared.mode.Mode.TheVariants.{Rotation, Vectoring}
 use Rattle.stage.specs.declared.step.Direction.{Direction}
 use Rattle.stage.specs.declared.step.Direction.TheVariants.{Plus, Minus}
 use Rattle.cordic.specs.declared.faults.Cause.{Cause}
-use Rattle.cordic.specs.declared.faults.Cause.TheVariants.{Unreachable, BadStart}
+use Rattle.cordic.specs.declared.faults.Cause.TheVariants.{Unreachable}
 use Rattle.cordic.specs.declared.faults.UnitFault.{UnitFault}
-use Rattle.cordic.proofs.Moved.{moved, Always, always_now, always_both, entries, parts_of, total_is, span_is}
+use Rattle.cordic.proofs.Moved.{moved, Always, always_both, parts_of, span_is}
 use Rattle.cordic.proofs.Spent.{sum}
 use Rattle.cordic.proofs.Ends.{next_y, minus_zero, linear_length}
 use Rattle.cordic.proofs.Reaching.{beyond_reach}

@@ -1,5 +1,5 @@
 -- What the checks before the arithmetic give back, against the recurrence of a run.
-use Rattle.std.specs.Prelude.{◌≡◌, ℕ, ◌≤◌, length, Ok, Err, Result}
+use Rattle.std.specs.Prelude.{◌≡◌, ◌≤◌, length, Ok, Err, Result}
 use Rattle.cordic.specs.Outcome.{stopped}
 use Rattle.network.specs.Bank.{words_of}
 use Rattle.network.specs.Network.{Describes}

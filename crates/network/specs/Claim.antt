@@ -6,7 +6,7 @@
 --   places   what the lent places hold after the call
 use Rattle.std.specs.Prelude.{◌≡◌, ℕ, ◌*◌, List, map, ℤ, Some}
 use Rattle.stage.specs.Stage.{Rule}
-use Rattle.cordic.specs.Outcome.{State, Out, went, stopped, mapped, steps_in, bare}
+use Rattle.cordic.specs.Outcome.{Out, went, stopped, mapped, steps_in, bare}
 use Rattle.network.specs.Neuron.{Working}
 use Rattle.network.specs.Plan.{LayerOf}
 use Rattle.network.specs.Run.{Feed, recurrence, outputs, written, cost}

@@ -2,7 +2,7 @@
 --   reported   1, a sample yields nothing: its position as input; 2, the sample count; 3, the plan's length; 4, a record of the plan: its
 --              position; 5 and 7, in the arithmetic: layer, neuron, the input if it arose in a product, and the neuron's fault with all
 --              that it carries; 8, too few places
-use Rattle.std.specs.Prelude.{ℕ, Some, None, Option}
+use Rattle.std.specs.Prelude.{ℕ, Some, None}
 use Rattle.cordic.specs.Faults.{reported as unit_reported}
 use Rattle.network.specs.declared.faults.NetworkFault.{NetworkFault}
 use Rattle.network.specs.declared.faults.NetworkFault.TheVariants.{NoSample, SampleCount, PlanLength, PlanRecord, Arithmetic, Places}

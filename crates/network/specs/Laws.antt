@@ -1,11 +1,11 @@
 -- What is true of every accepted run, and of every refused angle, in the words of the subject.
-use Rattle.std.specs.Prelude.{◌≡◌, ℕ, ◌+◌, ◌*◌, ◌^◌, ◌<◌, ◌≤◌, Bool, true, false, List, [], ◌∷◌, map, length, ℤ, pos, ◌+ℤ◌, ◌-ℤ◌, ◌*ℤ◌, ◌<ℤ◌, Some, None, Option, unsigned_abs}
+use Rattle.std.specs.Prelude.{◌≡◌, ℕ, ◌+◌, ◌*◌, ◌^◌, ◌<◌, ◌≤◌, List, [], ◌∷◌, map, ℤ, pos, ◌+ℤ◌, ◌-ℤ◌, ◌*ℤ◌, ◌<ℤ◌, Some, None, unsigned_abs}
 use Rattle.std.specs.List.{AllByRecursion as All}
 use Rattle.stage.specs.Word.{shifted}
 use Rattle.cordic.specs.declared.order.Iteration.{Iteration}
 use Rattle.cordic.specs.Order.{Lawful, Reachable}
 use Rattle.stage.specs.Stage.{Rule}
-use Rattle.cordic.specs.Outcome.{State, Out, stopped}
+use Rattle.cordic.specs.Outcome.{State, stopped}
 use Rattle.cordic.specs.Tables.{order}
 use Rattle.cordic.specs.Unit.{loaded, unit_fault}
 use Rattle.network.specs.Neuron.{Term, Quotient, Working, Neuron}

@@ -1,13 +1,11 @@
 -- A neuron: its net, its activation, and the working that a run leaves of it.
 use Rattle.std.specs.Prelude.{ℕ, ◌+◌, List, [], ◌∷◌, ℤ, pos, Some, None, Option}
 use Rattle.stage.specs.Stage.{Rule}
-use Rattle.cordic.specs.Outcome.{State, Out, went, stopped, onward, mapped, inside}
+use Rattle.cordic.specs.Outcome.{State, Out, went, onward, mapped, inside}
 use Rattle.cordic.specs.Tables.{linear, hyperbolic}
 use Rattle.cordic.specs.Unit.{passed}
 use Rattle.stage.specs.declared.registers.Triple.{Triple}
-use Rattle.stage.specs.declared.step.System.{System}
-use Rattle.stage.specs.declared.step.System.TheVariants.{Linear, Circular, Hyperbolic}
-use Rattle.cordic.specs.declared.mode.Mode.{Mode}
+use Rattle.stage.specs.declared.step.System.TheVariants.{Linear, Hyperbolic}
 use Rattle.cordic.specs.declared.mode.Mode.TheVariants.{Rotation, Vectoring}
 use Rattle.network.specs.declared.activation.Activation.{Activation}
 use Rattle.network.specs.declared.activation.Activation.TheVariants.{Identity, Tanh}

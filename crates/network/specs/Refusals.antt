@@ -2,7 +2,7 @@
 --   Barred         a check fails, and those before it pass
 --   InArithmetic   what stops the arithmetic
 --   Explained      what a refusal means
-use Rattle.std.specs.Prelude.{◌≡◌, ℕ, zero, suc, ◌<◌, ◌≤◌, Bool, true, false, List, [], ◌∷◌, length, ℤ, Some, None, Ok, Option, ◌≢◌, slice_index_or}
+use Rattle.std.specs.Prelude.{◌≡◌, ℕ, zero, suc, ◌<◌, ◌≤◌, true, false, List, [], ◌∷◌, length, ℤ, Some, None, Ok, Option, ◌≢◌, slice_index_or}
 use Rattle.stage.specs.declared.step.Overflow.{Overflow}
 use Rattle.stage.specs.declared.step.System.TheVariants.{Linear, Hyperbolic}
 use Rattle.cordic.specs.Order.{Reachable}

@@ -1,5 +1,5 @@
 -- A network run: the checks, then layer by layer and neuron by neuron.
-use Rattle.std.specs.Prelude.{ℕ, ◌+◌, ◌*◌, Bool, true, false, cond, List, [], ◌∷◌, ◌++◌, map, length, drop, ℤ, pos, Some, None, Ok, Err, Option, Result, ◌==◌, nat_lt}
+use Rattle.std.specs.Prelude.{ℕ, ◌+◌, ◌*◌, cond, List, [], ◌∷◌, ◌++◌, map, length, drop, ℤ, Some, None, Ok, Err, Option, Result, ◌==◌, nat_lt}
 use Rattle.stage.specs.Stage.{Rule}
 use Rattle.cordic.specs.Outcome.{State, Out, went, stopped, onward, mapped, inside}
 use Rattle.network.specs.Neuron.{Working, Neuron, fired}
@@ -7,7 +7,6 @@ use Rattle.network.specs.Plan.{LayerOf, plan_of}
 use Rattle.network.specs.declared.activation.Activation.{Activation}
 use Rattle.network.specs.declared.activation.Activation.TheVariants.{Identity, Tanh}
 use Rattle.network.specs.declared.faults.NeuronFault.{NeuronFault}
-use Rattle.network.specs.declared.faults.Located.{Located}
 use Rattle.network.specs.declared.faults.NetworkFault.{NetworkFault}
 use Rattle.network.specs.declared.faults.NetworkFault.TheVariants.{NoSample, SampleCount, Arithmetic, Places}
 

@@ -6,7 +6,7 @@ use Rattle.stage.specs.Stage.{zeros, silent}
 use Rattle.stage.specs.declared.registers.Triple.{Triple}
 use Rattle.network.specs.Sample.{recorded}
 use Rattle.network.specs.Seen.{outcome}
-use Rattle.network.specs.Run.{Feed, recurrence, outputs}
+use Rattle.network.specs.Run.{recurrence, outputs}
 use Rattle.network.specs.declared.faults.NetworkFault.{NetworkFault}
 use Rattle.network.specs.declared.sample.SampleRecord.{SampleRecord}
 use Rattle.neuron.specs.Input.{samples_of}

@@ -1,9 +1,9 @@
 -- What a recorder noted can be read back, so its rule makes of the notes what the recorder does.
-use Rattle.std.proofs.Common.{◌≡◌, ℕ, ◌+◌, ◌<◌, ◌≤◌, Bool, true, false, cond, ltb, List, [], ◌∷◌, ◌++◌, length, take, set, ℤ, Some, None, Ok, Err, Option, sym, refl, ap, ◌∙◌, arith}
+use Rattle.std.proofs.Common.{◌≡◌, ℕ, ◌+◌, ◌<◌, ◌≤◌, List, [], ◌∷◌, ◌++◌, length, take, set, ℤ, Some, None, Ok, Option, refl, ap, ◌∙◌, arith}
 use Rattle.std.proofs.lemmas.List.{take_more_set, length-take-le}
 use Rattle.std.proofs.lemmas.Bool.{lt-ltb, le-ltb}
 use Rattle.stage.specs.Step.{turned, escaped, judged, stepped}
-use Rattle.stage.specs.Stage.{loads, steps, Rule, answered, held_after, noted_after}
+use Rattle.stage.specs.Stage.{loads, Rule, answered, held_after, noted_after}
 use Rattle.stage.specs.Recorder.{appended, numbers_of, recorder_notes, triples_in, past_triples, recorder_rule}
 use Rattle.stage.specs.declared.registers.Triple.{Triple}
 use Rattle.stage.specs.declared.registers.Register.{Register}

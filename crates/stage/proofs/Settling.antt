@@ -1,7 +1,7 @@
 -- Three new registers, each a word or none, settle what the step comes to.
-use Rattle.std.proofs.Common.{◌≡◌, Bool, true, false, cond, ℤ, Some, None, Option, sym, refl, ap, ◌∙◌}
+use Rattle.std.proofs.Common.{◌≡◌, Bool, true, false, cond, ℤ, Some, None, Option, refl}
 use Rattle.stage.specs.Word.{is_word, in_word}
-use Rattle.stage.specs.Step.{turned, escaped, judged, stepped, settled}
+use Rattle.stage.specs.Step.{turned, judged, stepped, settled}
 use Rattle.stage.specs.declared.registers.Triple.{Triple}
 use Rattle.stage.specs.declared.registers.Register.TheVariants.{X, Y, Z}
 use Rattle.stage.specs.declared.step.Step.{Step}

@@ -6,9 +6,8 @@
 --   recorder_rule    what a call makes of such notes
 use Rattle.std.specs.Prelude.{ℕ, zero, suc, cond, List, [], ◌∷◌, ◌++◌, length, ℤ, pos, nat_lt, unsigned_abs}
 use Rattle.stage.specs.Step.{turned}
-use Rattle.stage.specs.Stage.{Call, loads, steps, Rule}
+use Rattle.stage.specs.Stage.{loads, steps, Rule}
 use Rattle.stage.specs.declared.registers.Triple.{Triple}
-use Rattle.stage.specs.declared.step.Step.{Step}
 
 abbrev pub appended : List Triple → Triple → List Triple
 appended ts t = cond (nat_lt (length ts) 64) (ts ++ (t ∷ [])) ts

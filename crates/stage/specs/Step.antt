@@ -5,7 +5,7 @@
 --   escaped   the first register outside the word
 --   stepped   what a step comes to
 --   settled   the same, from the three new registers where each is a word
-use Rattle.std.specs.Prelude.{Bool, true, false, cond, ℤ, pos, ◌+ℤ◌, ◌-ℤ◌, neg_ℤ, Some, None, Ok, Err, Option, Result}
+use Rattle.std.specs.Prelude.{cond, ℤ, pos, ◌+ℤ◌, ◌-ℤ◌, neg_ℤ, Some, None, Ok, Err, Option, Result}
 use Rattle.stage.specs.Word.{shifted, is_word}
 use Rattle.stage.specs.declared.registers.Triple.{Triple}
 use Rattle.stage.specs.declared.registers.Register.{Register}

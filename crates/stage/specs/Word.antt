@@ -2,7 +2,7 @@
 --   shifted   floor division by a power of two
 --   is_word    whether a number lies in the word
 --   in_word    the number, if it lies in the word
-use Rattle.std.specs.Prelude.{ℕ, ◌/◌, ◌^◌, Bool, true, false, cond, ◌&&◌, ℤ, pos, negsuc, Some, None, Option, int_le}
+use Rattle.std.specs.Prelude.{ℕ, ◌/◌, ◌^◌, Bool, cond, ◌&&◌, ℤ, pos, negsuc, Some, None, Option, int_le}
 
 -- floor (v / 2^s), below zero too: negsuc n is −1 − n, and −1 shifted by 5 is −1
 abbrev pub shifted : ℤ → ℕ → ℤ

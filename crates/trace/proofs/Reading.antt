@@ -6,7 +6,6 @@ use Rattle.std.specs.declared.alloc.Global.{Global}
 use Rattle.std.specs.Str.{all_ascii_digits}
 use Rattle.std.proofs.lemmas.List.{at_drop_more, at_drop_all}
 use Rattle.std.proofs.lemmas.Str.Parse.{IsNumeralModel, numerals_by_value, tells_all_ascii_digits}
-use Rattle.std.proofs.lemmas.Int.{ints}
 use Rattle.stage.specs.Word.{is_word}
 use Rattle.trace.specs.Reader.{numeral, number_in, dashed, asks_for_help, help_in, blank, taken_in, misfit_at, next, drafted}
 use Rattle.trace.specs.declared.request.Misfit.{Misfit}

@@ -1,5 +1,5 @@
-use Rattle.std.proofs.Common.{◌≡◌, ◌^◌, ◌≤◌, length, ◌+ℤ◌, nat_abs, arith, w32, w64, SFits, to_z, rules}
-use Rattle.std.proofs.lemmas.Int.{ints, to_z-of_z}
+use Rattle.std.proofs.Common.{◌≤◌, length, arith, w32, SFits, rules}
+use Rattle.std.proofs.lemmas.Int.{ints}
 use Rattle.cordic.proofs.Places.{within}
 use Rattle.cordic.proofs.Spans.{shifted_small, span_more, span_done}
 use Rattle.cordic.proofs.refusal.span.Goals as goal

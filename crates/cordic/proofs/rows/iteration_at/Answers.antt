@@ -1,5 +1,4 @@
-use Rattle.std.proofs.Common.{◌≡◌, get_or, Some, ap, ◌∙◌, arith}
-use Rattle.cordic.specs.Order.{iteration}
+use Rattle.std.proofs.Common.{get_or, Some, ap, ◌∙◌, arith}
 use Rattle.cordic.proofs.Places.{shift_is, nth_row, no_row}
 use Rattle.cordic.proofs.rows.iteration_at.Goals as goal
 

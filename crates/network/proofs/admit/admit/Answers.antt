@@ -1,8 +1,7 @@
-use Rattle.std.proofs.Common.{◌≡◌, map, length, sym, ◌∙◌, arith, rules}
+use Rattle.std.proofs.Common.{map, sym, ◌∙◌, arith}
 use Rattle.std.proofs.lemmas.List.{length-map}
 use Rattle.std.proofs.lemmas.Result.{err_from_is_err_and}
 use Rattle.network.proofs.Admitting.{entrance_narrow, bad_plan, few_places, bad_count, no_sample, all_pass}
-use Rattle.network.proofs.Planning.{plan_shaped}
 use Rattle.network.specs.Walk.{layers_of}
 use Rattle.network.proofs.admit.admit.Goals as goal
 

@@ -1,15 +1,10 @@
-use Rattle.std.proofs.Common.{◌≡◌, List, length, take, sym, refl, ap, ◌∙◌, arith, w32, SFits, rules}
+use Rattle.std.proofs.Common.{arith, w32, SFits, rules}
 use native.Mathlib.Nat.{sub-zero}
 use Rattle.std.proofs.lemmas.Result.{err_from_is_err_and}
 use Rattle.std.proofs.lemmas.Int.{to_z-of_z}
-use Rattle.cordic.specs.Seen.{state_of}
-use Rattle.network.specs.Neuron.{Neuron}
-use Rattle.network.specs.Plain.{neuron_of}
-use Rattle.network.specs.Plan.{LayerOf, records}
-use Rattle.network.specs.Reading.{Ahead}
 use Rattle.network.proofs.Laying.{site_at, fire_short, fired_is, layer_on, layer_halt, layer_done}
 use Rattle.network.proofs.Places.{placed_steps}
-use Rattle.network.proofs.ReadBack.{Met, ahead_enough, ahead_more, ahead_none}
+use Rattle.network.proofs.ReadBack.{ahead_enough, ahead_more, ahead_none}
 use Rattle.network.proofs.layer.run_layer.Goals as goal
 
 pub read_neuron-bias-requires : goal.read_neuron-bias-requires

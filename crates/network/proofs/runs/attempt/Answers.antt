@@ -1,7 +1,7 @@
-use Rattle.std.proofs.Common.{◌≡◌, length, take, sym, refl, ap, ◌∙◌, arith, rules}
+use Rattle.std.proofs.Common.{◌≡◌, length, take, sym, refl, ap, ◌∙◌, arith}
 use Rattle.std.proofs.lemmas.Result.{err_from_is_err_and}
 use Rattle.network.specs.Seen.{feed_of}
-use Rattle.network.specs.Run.{Feed, outputs, recurrence, written}
+use Rattle.network.specs.Run.{Feed, outputs, written}
 use Rattle.network.specs.Admitted.{Admitted}
 use Rattle.network.specs.Bank.{words_of}
 use Rattle.cordic.specs.Outcome.{went, mapped}

@@ -1,4 +1,4 @@
-use Rattle.std.proofs.Common.{◌≡◌, sym, refl, ap, ◌∙◌}
+use Rattle.std.proofs.Common.{ap, ◌∙◌}
 use Rattle.stage.specs.declared.parallel.Parallel.{Parallel}
 use Rattle.cordic.specs.Outcome.{mapped}
 use Rattle.network.specs.Run.{recurrence, outputs}

@@ -1,4 +1,4 @@
-use Rattle.std.proofs.Common.{◌≡◌, sym, ◌∙◌}
+use Rattle.std.proofs.Common.{sym, ◌∙◌}
 use Rattle.stage.specs.Log.{logged}
 use Rattle.stage.proofs.Recording.{records_step}
 use Rattle.stage.proofs.recorder.RecorderStage.step.Goals as goal
