@@ -1,7 +1,7 @@
 -- The iteration at a place of an order.
 use Rattle.std.proofs.Common.{◌≡◌, ℕ, zero, suc, ◌+◌, ◌<◌, ◌≤◌, min, List, [], ◌∷◌, map, length, get_or, drop, Some, None, refl, ap, subst, le_of_suc-le-suc, not-suc-le-zero, suc-add, arith}
 use native.Mathlib.Bridge.{le_prop}
-use Rattle.std.specs.List.{AllByRecursion as All}
+use Rattle.std.specs.List.{AllByRecursion}
 use Rattle.stage.specs.declared.shift.Shift.{Shift}
 use Rattle.cordic.specs.Order.{shift_of, iteration, nth}
 use Rattle.cordic.specs.declared.order.Iteration.{Iteration}
@@ -42,7 +42,7 @@ within [] i k e = let z : ◌≡◌ {A = ℕ} 0 1 = cc in absurd (omega arith)
 within (j ∷ ks) zero k e = omega arith
 within (j ∷ ks) (suc i) k e = let h = within ks i k e in omega arith
 
-pub at_place : (P : Iteration → Type 0) (ks : List Iteration) (i : ℕ) (k : Iteration) → All P ks → Some k ≡ nth ks i → P k
+pub at_place : (P : Iteration → Type 0) (ks : List Iteration) (i : ℕ) (k : Iteration) → AllByRecursion P ks → Some k ≡ nth ks i → P k
 at_place P [] i k a e = let z : ◌≡◌ {A = ℕ} 0 1 = cc in absurd (omega arith)
 at_place P (j ∷ ks) zero k a e = let f : j ≡ k = cc in subst P f a.0
 at_place P (j ∷ ks) (suc i) k a e = at_place P ks i k a.1 e

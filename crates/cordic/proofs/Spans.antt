@@ -2,18 +2,18 @@
 use Rattle.std.proofs.Common.{◌≡◌, ℕ, ◌+◌, ◌*◌, ◌^◌, ◌<◌, ◌≤◌, List, [], ◌∷◌, length, drop, ℤ, pos, negsuc, ◌+ℤ◌, nat_abs, Some, None, ap, arith, w32, SFits}
 use lib.Pow.{shr_le}
 use Rattle.std.proofs.lemmas.Int.{ints}
-use Rattle.std.specs.List.{AllByRecursion as All}
+use Rattle.std.specs.List.{AllByRecursion}
 use Rattle.stage.specs.Word.{shifted}
 use Rattle.cordic.specs.Order.{total, nth}
 use Rattle.cordic.specs.Unit.{span}
 use Rattle.cordic.specs.declared.order.Iteration.{Iteration}
 use Rattle.cordic.proofs.Places.{drop_some, drop_none}
 
-total_of : (ks : List Iteration) → All (λ k. k.entry < 2 ^ 31) ks → total ks ≤ 2 ^ 31 * length ks
+total_of : (ks : List Iteration) → AllByRecursion (λ k. k.entry < 2 ^ 31) ks → total ks ≤ 2 ^ 31 * length ks
 total_of [] a = omega arith
 total_of (k ∷ ks) a = let h = total_of ks a.1 in let e = a.0 in omega arith
 
-pub total_small : (ks : List Iteration) → All (λ k. k.entry < 2 ^ 31) ks → length ks ≤ 64 → total ks ≤ 2 ^ 37
+pub total_small : (ks : List Iteration) → AllByRecursion (λ k. k.entry < 2 ^ 31) ks → length ks ≤ 64 → total ks ≤ 2 ^ 37
 total_small ks a h = let k = total_of ks a in omega arith
 
 pub shifted_small : (x : ℤ) (s : ℕ) → SFits w32 x → nat_abs (shifted x s) ≤ 2 ^ 31

@@ -7,7 +7,7 @@
 --   Reachable    some choice of directions, one for each iteration, leaves at most one unit
 use Rattle.std.specs.Prelude.{◌≡◌, ℕ, zero, suc, ◌+◌, ◌<◌, ◌≤◌, min, List, [], ◌∷◌, length, ℤ, pos, ◌-ℤ◌, Some, None, Option, unsigned_abs}
 use Rattle.std.proofs.Math.Nat.{min-le_right}
-use Rattle.std.specs.List.{AllByRecursion as All}
+use Rattle.std.specs.List.{AllByRecursion}
 use Rattle.stage.specs.Step.{signed}
 use Rattle.stage.specs.declared.shift.Shift.{Shift}
 use Rattle.stage.specs.declared.step.Direction.{Direction}
@@ -39,7 +39,7 @@ Covered [] = Unit {0}
 Covered (k ∷ ks) = (k.entry ≤ total ks + 1) × Covered ks
 
 pub record Lawful (ks : List Iteration) : Type 0 where
-  pub positive : All (λ k. 0 < k.entry) ks
+  pub positive : AllByRecursion (λ k. 0 < k.entry) ks
   pub last : last_entry 0 ks ≡ 1
   pub covered : Covered ks
 

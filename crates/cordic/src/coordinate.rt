@@ -1,6 +1,6 @@
 // A coordinate system: its order of iterations, and the laws from which a rotation converges.
 ghost use Rattle.std.specs.Prelude.{◌≡◌, ◌^◌, ◌<◌, ◌≤◌, List, length};
-ghost use Rattle.std.specs.List.{AllByRecursion as All};
+ghost use Rattle.std.specs.List.{AllByRecursion};
 ghost use Rattle.stage.specs.declared.step.System.{System};
 ghost use Rattle.cordic.specs.Order.{Lawful, nth, total as total_of};
 ghost use Rattle.cordic.specs.declared.order.Iteration.{Iteration};
@@ -29,7 +29,7 @@ pub trait Coordinate {
     ghost lawful: { Lawful order };
 
     // what the machine holds: entries are words, and there are at most 64 iterations
-    ghost words: { All (λ k. k.entry < 2 ^ 31) order };
+    ghost words: { AllByRecursion (λ k. k.entry < 2 ^ 31) order };
 
     ghost few: { length order ≤ 64 };
 }

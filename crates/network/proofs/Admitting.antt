@@ -1,7 +1,7 @@
 -- The checks before the arithmetic, as the code makes them.
 use Rattle.std.proofs.Common.{◌≡◌, ℕ, ◌<◌, ◌≤◌, List, [], ◌∷◌, length, ℤ, Some, Ok, Err, Option, sym, ap, ◌∙◌, arith}
 use Rattle.std.proofs.lemmas.List.{length-map}
-use Rattle.std.specs.List.{AllByRecursion as All}
+use Rattle.std.specs.List.{AllByRecursion}
 use Rattle.std.proofs.lemmas.Bool.{le-ltb, eq-eqb}
 use Rattle.cordic.specs.Outcome.{stopped}
 use Rattle.network.specs.Admitted.{Admitted}
@@ -16,7 +16,7 @@ use Rattle.network.specs.declared.faults.NetworkFault.TheVariants.{NoSample, Sam
 use Rattle.network.proofs.Checks.{ranked_stops}
 use Rattle.network.proofs.Sampling.{words_are}
 
-pub entrance_narrow : (hs : List LayerOf) → All Sized hs → entrance hs ≤ 64
+pub entrance_narrow : (hs : List LayerOf) → AllByRecursion Sized hs → entrance hs ≤ 64
 entrance_narrow [] sized = omega arith
 entrance_narrow (h ∷ hs) sized = sized.0.narrow
 

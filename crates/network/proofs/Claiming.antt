@@ -1,6 +1,6 @@
 -- The whole claim of a run whose code agrees with the recurrence.
 use Rattle.std.proofs.Common.{◌≡◌, ℕ, ◌*◌, ◌<◌, Bool, true, false, cond, List, ℤ, Some, None, refl, ap, ◌∙◌, arith}
-use Rattle.std.specs.List.{AllByRecursion as All}
+use Rattle.std.specs.List.{AllByRecursion}
 use Rattle.stage.specs.Stage.{Rule}
 use Rattle.stage.specs.declared.registers.Triple.{Triple}
 use Rattle.stage.specs.declared.step.System.{System}
@@ -48,7 +48,7 @@ reach = record {
   lawful = lawful;
 }
 
-pub whole : (f : Feed) (per : ℕ) (seen : Out (List ℤ) NetworkFault) (ticks : ℕ) (places : List ℤ) → All (λ b. b < 256) f.plan
+pub whole : (f : Feed) (per : ℕ) (seen : Out (List ℤ) NetworkFault) (ticks : ℕ) (places : List ℤ) → AllByRecursion (λ b. b < 256) f.plan
     → seen ≡ mapped outputs (recurrence f) → ticks ≡ steps_in seen * per → places ≡ written (recurrence f) f.places → Whole f per seen ticks places
 whole f per seen ticks places bytes same ticked lent = record {
   same = same;

@@ -1,7 +1,7 @@
 -- Records and their bytes, and the law of plans.
 use Rattle.std.proofs.Common.{◌≡◌, ℕ, ◌+◌, ◌*◌, ◌/◌, ◌%◌, ◌^◌, ◌<◌, ◌≤◌, Bool, true, false, cond, List, [], ◌∷◌, ◌++◌, length, get_or, Ok, Err, Result, sym, refl, ap, ◌∙◌, subst, arith, w8, w32, Fits, SFits, to_z, of_z}
 use Rattle.std.proofs.ByRecursion.{All-from_get_or}
-use Rattle.std.specs.List.{flat_map, AllByRecursion as All}
+use Rattle.std.specs.List.{flat_map, AllByRecursion}
 use Rattle.std.proofs.lemmas.Bool.Decides.{nat_tests}
 use Rattle.std.proofs.lemmas.Int.{ints, to_z-of_z, of_z-to_z}
 use Rattle.network.specs.declared.record.Record.{Record}
@@ -40,7 +40,7 @@ record_back k f i0 i1 v0 v1 v2 v3 h p q r s =
     rw (e, g, u, w)
 
 -- whole records of bytes are those bytes again
-pub bytes_back : (bs : List ℕ) → length bs % 8 ≡ 0 → All (λ b. b < 256) bs → flat_map record_bytes (records bs) ≡ bs
+pub bytes_back : (bs : List ℕ) → length bs % 8 ≡ 0 → AllByRecursion (λ b. b < 256) bs → flat_map record_bytes (records bs) ≡ bs
 bytes_back (k ∷ f ∷ i0 ∷ i1 ∷ v0 ∷ v1 ∷ v2 ∷ v3 ∷ rest) h a =
     let t = a.1.1.1 in let v = t.1.1.1.1 in
     let r = record_back k f i0 i1 v0 v1 v2 v3 t.0 t.1.0 t.1.1.0 t.1.1.1.0 v.0 in
@@ -59,7 +59,7 @@ fits_word : (u : ℕ) → u < 2 ^ 32 → SFits w32 (to_z w32 u)
 fits_word u h = grind (arith, ints)
 
 -- and their values are words
-pub values_fit : (bs : List ℕ) → All (λ b. b < 256) bs → All (λ r. SFits w32 r.value) (records bs)
+pub values_fit : (bs : List ℕ) → AllByRecursion (λ b. b < 256) bs → AllByRecursion (λ r. SFits w32 r.value) (records bs)
 values_fit (k ∷ f ∷ i0 ∷ i1 ∷ v0 ∷ v1 ∷ v2 ∷ v3 ∷ rest) a =
     let t = a.1.1.1.1 in
     (fits_word (big v0 v1 v2 v3) (big_below v0 v1 v2 v3 t.0 t.1.0 t.1.1.0 t.1.1.1.0), values_fit rest t.1.1.1.1)
@@ -73,7 +73,7 @@ values_fit (k ∷ []) a = tt
 values_fit [] a = tt
 
 -- the bytes of records are those records again
-pub records_back : (rs : List Record) → All (λ r. SFits w32 r.value) rs → records (flat_map record_bytes rs) ≡ rs
+pub records_back : (rs : List Record) → AllByRecursion (λ r. SFits w32 r.value) rs → records (flat_map record_bytes rs) ≡ rs
 records_back [] a = refl
 records_back (r ∷ rs) a =
     let i : r.index / 256 * 256 + r.index % 256 ≡ r.index = omega arith in
@@ -93,7 +93,7 @@ plan_inv true x ls e = absurd (let z : ◌≡◌ {A = ℕ} 0 1 = cc in omega ari
 plan_inv false x ls e = (refl, e)
 
 -- a plan that is accepted describes its layers
-pub plan_describes : (bs : List ℕ) (ls : List LayerOf) → All (λ b. b < 256) bs → plan_of bs ≡ Ok ls → Describes ls bs
+pub plan_describes : (bs : List ℕ) (ls : List LayerOf) → AllByRecursion (λ b. b < 256) bs → plan_of bs ≡ Ok ls → Describes ls bs
 unfolding plan_of
 plan_describes bs ls a e =
     let p = plan_inv (has_bad_length (length bs)) (described (parse (Layer 0 4) 0 (records bs))) ls e in
@@ -103,7 +103,7 @@ plan_describes bs ls a e =
     let b = p.0 in
     record {
       encoded = sym (bytes_back bs (grind (arith, nat_tests)) a) ∙ ap (flat_map record_bytes) r;
-      formed = (chain_shaped ls (subst (λ l. Chain 0 4 l) q.2 d.1.2), words_from ls (subst (λ rs. All (λ r. SFits w32 r.value) rs) r (values_fit bs a)));
+      formed = (chain_shaped ls (subst (λ l. Chain 0 4 l) q.2 d.1.2), words_from ls (subst (λ rs. AllByRecursion (λ r. SFits w32 r.value) rs) r (values_fit bs a)));
       short = grind (arith, nat_tests);
     }
 
@@ -128,5 +128,5 @@ described_plan bs ls d =
     rw (b, p)
 
 -- what a slice of bytes holds
-pub all_bytes : (bs : List ℕ) → ((i : ℕ) → Fits w8 (get_or bs i 0)) → All (λ b. b < 256) bs
+pub all_bytes : (bs : List ℕ) → ((i : ℕ) → Fits w8 (get_or bs i 0)) → AllByRecursion (λ b. b < 256) bs
 all_bytes bs f = All-from_get_or (λ b. b < 256) bs 0 (λ i h. omega (arith, f i))

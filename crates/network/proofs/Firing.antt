@@ -1,6 +1,6 @@
 -- Neurons, layers and networks: what an accepted run comes to, and what stops one.
 use Rattle.std.proofs.Common.{◌≡◌, ℕ, suc, ◌+◌, ◌*◌, ◌≤◌, List, [], ◌∷◌, map, length, ℤ, Some, None, Option, sym, refl, ap, ◌∙◌, subst, add-zero, zero-add, arith}
-use Rattle.std.specs.List.{AllByRecursion as All}
+use Rattle.std.specs.List.{AllByRecursion}
 use Rattle.stage.specs.Stage.{Rule}
 use Rattle.stage.specs.declared.step.Overflow.{Overflow}
 use Rattle.stage.specs.declared.step.System.TheVariants.{Linear, Hyperbolic}
@@ -112,7 +112,7 @@ module _ (rule : Rule) (xs : List ℤ) (n : Neuron) where
 -- ---- the neurons of a layer
 
 abbrev AllMatched : List ℤ → List Neuron → Type 0
-AllMatched xs ns = All (λ n. length n.weights ≡ length xs) ns × (1 ≤ length xs)
+AllMatched xs ns = AllByRecursion (λ n. length n.weights ≡ length xs) ns × (1 ≤ length xs)
 
 -- a fault in layer l, at a neuron of ns, of which j went before
 pub record InLayer (l j : ℕ) (ns : List Neuron) (f : NetworkFault) (u : State) : Type 0 where
@@ -171,7 +171,7 @@ layer_holds rule l h xs j (n ∷ ns) s =
 -- ---- the layers
 
 abbrev Fed : LayerOf → Type 0
-Fed h = (1 ≤ h.inputs) × All (λ n. length n.weights ≡ h.inputs) h.neurons
+Fed h = (1 ≤ h.inputs) × AllByRecursion (λ n. length n.weights ≡ h.inputs) h.neurons
 
 -- a fault in a layer of hs, of which l went before
 pub record InLayers (l : ℕ) (hs : List LayerOf) (f : NetworkFault) (u : State) : Type 0 where
@@ -181,20 +181,20 @@ pub record InLayers (l : ℕ) (hs : List LayerOf) (f : NetworkFault) (u : State)
   pub inner : InLayer (l + back) 0 within.neurons f u
 
 abbrev StoppedIn : ℕ → List LayerOf → List ℤ → Said NetworkFault
-StoppedIn l hs xs f k u = All Fed hs → Follows (length xs) hs → InLayers l hs f u
+StoppedIn l hs xs f k u = AllByRecursion Fed hs → Follows (length xs) hs → InLayers l hs f u
 
 abbrev FiredLayers : List LayerOf → List ℤ → Said (List (List Working))
-FiredLayers hs xs w k s = All Fed hs → Follows (length xs) hs → Chains xs hs w × (k ≡ cost hs)
+FiredLayers hs xs w k s = AllByRecursion Fed hs → Follows (length xs) hs → Chains xs hs w × (k ≡ cost hs)
 
 -- a layer that has as many inputs as there are words
-full : (ns : List Neuron) (a b : ℕ) → a ≡ b → All (λ n. length n.weights ≡ a) ns → All (λ n. length n.weights ≡ b) ns
+full : (ns : List Neuron) (a b : ℕ) → a ≡ b → AllByRecursion (λ n. length n.weights ≡ a) ns → AllByRecursion (λ n. length n.weights ≡ b) ns
 full ns a b e h = rw e at h
 
 follows : (a b : ℕ) (hs : List LayerOf) → a ≡ b → Follows b hs → Follows a hs
 follows a b [] e f = tt
 follows a b (h ∷ hs) e f = (f.0 ∙ sym e, f.1)
 
-matched : (h : LayerOf) (hs : List LayerOf) (xs : List ℤ) → All Fed (h ∷ hs) → Follows (length xs) (h ∷ hs) → AllMatched xs h.neurons
+matched : (h : LayerOf) (hs : List LayerOf) (xs : List ℤ) → AllByRecursion Fed (h ∷ hs) → Follows (length xs) (h ∷ hs) → AllMatched xs h.neurons
 matched h hs xs a f = (full h.neurons h.inputs (length xs) f.0 a.0.1, subst (λ (m : ℕ). 1 ≤ m) f.0 a.0.0)
 
 later_layers : (l : ℕ) (h : LayerOf) (hs : List LayerOf) (f : NetworkFault) (u : State) → InLayers (l + 1) hs f u → InLayers l (h ∷ hs) f u
@@ -216,7 +216,7 @@ layers_hold rule l (h ∷ hs) xs s =
     (layer_holds rule l h xs 0 h.neurons s))
     (λ ws k u p.
     let r = layers rule (l + 1) hs (map output ws) u in
-    let wide : All Fed (h ∷ hs) → Follows (length xs) (h ∷ hs) → Follows (length (map output ws)) hs = λ a f.
+    let wide : AllByRecursion Fed (h ∷ hs) → Follows (length xs) (h ∷ hs) → Follows (length (map output ws)) hs = λ a f.
     follows (length (map output ws)) (length h.neurons) hs (p (matched h hs xs a f)).1 f.1 in
     holds_mapped (Later k R) (Later k Q) (λ rest. ws ∷ rest) r
     (holds_less (FiredLayers hs (map output ws)) (λ rest. Later k R (ws ∷ rest)) (StoppedIn (l + 1) hs (map output ws)) (Later k Q) r
@@ -229,7 +229,7 @@ layers_hold rule l (h ∷ hs) xs s =
 
 -- ---- a whole network
 
-all_fed : (hs : List LayerOf) → All Sized hs → All Fed hs
+all_fed : (hs : List LayerOf) → AllByRecursion Sized hs → AllByRecursion Fed hs
 all_fed [] a = tt
 all_fed (h ∷ hs) a = ((a.0.fed, a.0.full), all_fed hs a.1)
 

@@ -1,7 +1,7 @@
 -- The loop over the layers of a plan.
 use Rattle.std.proofs.Common.{◌≡◌, ℕ, zero, suc, ◌+◌, ◌*◌, ◌≤◌, List, [], ◌∷◌, map, length, drop, ℤ, nat_abs, Ok, Err, Result, sym, refl, ap, ◌∙◌, add-zero, zero-add, arith}
 use Rattle.std.proofs.lemmas.List.{length-map, length-append, length-drop, drop-drop, drop_at}
-use Rattle.std.specs.List.{AllByRecursion as All}
+use Rattle.std.specs.List.{AllByRecursion}
 use Rattle.stage.specs.Stage.{Rule}
 use Rattle.stage.specs.declared.stage.Stage.{Ghosts}
 use Rattle.cordic.specs.Outcome.{State, Out, went, stopped, counted, onward, mapped, inside, steps_in}
@@ -141,7 +141,7 @@ records_drop (suc k) bs h =
     let a : 8 + 8 * k ≡ 8 * suc k = omega arith in
     ap (λ n. records (drop n bs)) (sym a) ∙ ap records (sym (drop-drop (8 * k) 8 bs)) ∙ records_drop k (drop 8 bs) m ∙ ap (drop (suc k)) (sym (records_cons bs l))
 
-length_neurons : (j i : ℕ) (ns : List Neuron) → All (λ n. length n.weights ≡ i) ns → length (neuron_records j ns) ≡ length ns * (i + 1)
+length_neurons : (j i : ℕ) (ns : List Neuron) → AllByRecursion (λ n. length n.weights ≡ i) ns → length (neuron_records j ns) ≡ length ns * (i + 1)
 length_neurons j i [] a = omega arith
 length_neurons j i (n ∷ ns) a =
     let m = length-append (weight_records 0 n.weights) (neuron_records (j + 1) ns) in
@@ -178,10 +178,10 @@ pub record Faces (head : Record) (tail : List Record) (ls : List LayerOf) (width
   pub narrow : width ≤ 64
   pub few : head.index ≤ 64
   pub some : length within.neurons ≤ 64
-  pub sized : All Sized others
+  pub sized : AllByRecursion Sized others
   pub follows : Follows (length within.neurons) others
 
-pub faces : (rs : List Record) (head : Record) (tail : List Record) (ls : List LayerOf) (width : ℕ) → rs ≡ layer_records ls → All Sized ls → Follows width ls → rs ≡ head ∷ tail → Faces head tail ls width
+pub faces : (rs : List Record) (head : Record) (tail : List Record) (ls : List LayerOf) (width : ℕ) → rs ≡ layer_records ls → AllByRecursion Sized ls → Follows width ls → rs ≡ head ∷ tail → Faces head tail ls width
 faces rs head tail [] width p s f e = absurd (let z : ◌≡◌ {A = ℕ} 0 1 = cc in omega arith)
 faces rs head tail (l ∷ ls) width p s f e =
     let o = layers_more rs head tail (l ∷ ls) p s e in

@@ -2,7 +2,7 @@
 use Rattle.std.proofs.Common.{◌≡◌, ℕ, zero, suc, ◌+◌, ◌-◌, ◌<◌, ◌≤◌, Bool, true, false, cond, ◌&&◌, ◌||◌, eqb, ltb, ◌⊎◌, List, [], ◌∷◌, ◌++◌, length, ℤ, pos, negsuc, nat_abs, Some, None, Ok, Err, Option, Result, sym, refl, ap, ◌∙◌, subst, inl, inr, append_assoc, zero-add, arith}
 use mathlib.Core.Logic.{⊎_map}
 use lib.Signed.{le_z}
-use Rattle.std.specs.List.{AllByRecursion as All}
+use Rattle.std.specs.List.{AllByRecursion}
 use Rattle.std.proofs.lemmas.Bool.{cond-true, and_from, and_parts, or_cases, eqb-true, lt-ltb, ltb-true, ltb-false}
 use Rattle.std.proofs.lemmas.Bool.Decides.{nat_tests}
 use Rattle.std.proofs.lemmas.Int.{ints}
@@ -32,8 +32,8 @@ records_for (Weight shape neuron input) t = weight_records input t.weights ++ (n
 -- and that it fits what is left to describe
 abbrev pub Fitting : Next → Tail → Type 0
 Fitting (Layer before left) t = (t.weights ≡ []) × (t.neurons ≡ []) × Chain before left t.layers
-Fitting (Bias shape neuron) t = (t.weights ≡ []) × (neuron + length t.neurons ≡ shape.neurons) × All (λ n. length n.weights ≡ shape.inputs) t.neurons × Chain shape.neurons shape.left t.layers
-Fitting (Weight shape neuron input) t = (input + length t.weights ≡ shape.inputs) × (neuron + 1 + length t.neurons ≡ shape.neurons) × All (λ n. length n.weights ≡ shape.inputs) t.neurons × Chain shape.neurons shape.left t.layers
+Fitting (Bias shape neuron) t = (t.weights ≡ []) × (neuron + length t.neurons ≡ shape.neurons) × AllByRecursion (λ n. length n.weights ≡ shape.inputs) t.neurons × Chain shape.neurons shape.left t.layers
+Fitting (Weight shape neuron input) t = (input + length t.weights ≡ shape.inputs) × (neuron + 1 + length t.neurons ≡ shape.neurons) × AllByRecursion (λ n. length n.weights ≡ shape.inputs) t.neurons × Chain shape.neurons shape.left t.layers
 
 pub some_cond : {X : Type 0} (b : Bool) (x y : X) → cond b (Some x) None ≡ Some y → (b ≡ true) × (x ≡ y)
 some_cond true x y e = (refl, cc)
@@ -201,7 +201,7 @@ begun_bias s j ws (x ∷ ns) ls h f =
       whole = rw f.0;
     }
 
-filled_on : (s : Shape) (j i : ℕ) (b c : Bool) (ws : List ℤ) (ns : List Neuron) (ls : List LayerOf) → ltb (i + 1) s.inputs ≡ b → ltb (j + 1) s.neurons ≡ c → i + 1 + length ws ≡ s.inputs → j + 1 + length ns ≡ s.neurons → All (λ n. length n.weights ≡ s.inputs) ns → Chain s.neurons s.left ls → (weight_records (i + 1) ws ++ (neuron_records (j + 1) ns ++ layer_records ls) ≡ records_for (cond b (Weight s j (i + 1)) (cond c (Bias s (j + 1)) (Layer s.neurons s.left))) (tail ws ns ls)) × Fitting (cond b (Weight s j (i + 1)) (cond c (Bias s (j + 1)) (Layer s.neurons s.left))) (tail ws ns ls)
+filled_on : (s : Shape) (j i : ℕ) (b c : Bool) (ws : List ℤ) (ns : List Neuron) (ls : List LayerOf) → ltb (i + 1) s.inputs ≡ b → ltb (j + 1) s.neurons ≡ c → i + 1 + length ws ≡ s.inputs → j + 1 + length ns ≡ s.neurons → AllByRecursion (λ n. length n.weights ≡ s.inputs) ns → Chain s.neurons s.left ls → (weight_records (i + 1) ws ++ (neuron_records (j + 1) ns ++ layer_records ls) ≡ records_for (cond b (Weight s j (i + 1)) (cond c (Bias s (j + 1)) (Layer s.neurons s.left))) (tail ws ns ls)) × Fitting (cond b (Weight s j (i + 1)) (cond c (Bias s (j + 1)) (Layer s.neurons s.left))) (tail ws ns ls)
 filled_on s j i true c ws ns ls p q h k a d = (refl, (h, k, a, d))
 filled_on s j i false true [] ns ls p q h k a d = (refl, (refl, k, a, d))
 filled_on s j i false true (w ∷ ws) ns ls p q h k a d = absurd (omega (arith, ltb-false (i + 1) s.inputs p))

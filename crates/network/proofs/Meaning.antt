@@ -17,7 +17,7 @@ use Rattle.network.proofs.Planning.{plan_shaped}
 use Rattle.network.proofs.Placing.{Accepts, accepting}
 use Rattle.network.proofs.Sampling.{words_are}
 use Rattle.network.proofs.Firing.{runs, stops}
-use Rattle.std.specs.List.{AllByRecursion as All}
+use Rattle.std.specs.List.{AllByRecursion}
 
 -- what the samples yield is as many words as the first layer reads
 wide : (f : Feed) (hs : List LayerOf) (xs : List ℤ) → words 0 f.samples ≡ Ok xs → length f.samples ≡ entrance hs → length xs ≡ entrance hs
@@ -37,7 +37,7 @@ stop_means f SampleCount n s e = explained_by f SampleCount s (barring f SampleC
 stop_means f (NoSample p) n s e = explained_by f (NoSample p) s (barring f (NoSample p) n s e (λ l c. no (cc))).rank
 stop_means f (Arithmetic l) n s e = in_layers f l n s e
 
-go_means : (f : Feed) (w : List (List Working)) (n : ℕ) (s : State) → All (λ b. b < 256) f.plan → recurrence f ≡ went w n s → Accepted f w n
+go_means : (f : Feed) (w : List (List Working)) (n : ℕ) (s : State) → AllByRecursion (λ b. b < 256) f.plan → recurrence f ≡ went w n s → Accepted f w n
 go_means f w n s b e =
     let a = accepting f w n s e in
     let hs = a.0 in
@@ -46,9 +46,9 @@ go_means f w n s b e =
     let c = runs f.rule hs xs f.state (plan_shaped f.plan hs k.plan).0 (wide f hs xs k.samples k.count) w n s k.layered in
     (hs, xs, plan_describes f.plan hs b k.plan, k.yields, c.0, c.1)
 
-by_out : (f : Feed) (o : Out (List (List Working)) NetworkFault) → All (λ b. b < 256) f.plan → recurrence f ≡ o → Explains f o
+by_out : (f : Feed) (o : Out (List (List Working)) NetworkFault) → AllByRecursion (λ b. b < 256) f.plan → recurrence f ≡ o → Explains f o
 by_out f (went w n s) b e = go_means f w n s b e
 by_out f (stopped why n s) b e = stop_means f why n s e
 
-pub meaning : (f : Feed) → All (λ b. b < 256) f.plan → Explains f (recurrence f)
+pub meaning : (f : Feed) → AllByRecursion (λ b. b < 256) f.plan → Explains f (recurrence f)
 meaning f b = by_out f (recurrence f) b refl

@@ -1,7 +1,7 @@
 -- A plan read back: neuron by neuron, and layer by layer.
 use Rattle.std.proofs.Common.{◌≡◌, ℕ, suc, ◌+◌, ◌<◌, ◌≤◌, List, [], ◌∷◌, ◌++◌, length, take, drop, set, ℤ, pos, nat_abs, sym, refl, ap, ◌∙◌, zero-add, add-one, arith}
 use Rattle.std.proofs.lemmas.List.{append_cancel_right, length-append, drop_at, map-append, append_assoc, take_more_set, drop-drop}
-use Rattle.std.specs.List.{AllByRecursion as All}
+use Rattle.std.specs.List.{AllByRecursion}
 use Rattle.network.specs.Neuron.{Neuron}
 use Rattle.network.specs.Plan.{LayerOf, activation_at}
 use Rattle.network.specs.Network.{weight_records, neuron_records, layer_records, Sized}
@@ -80,10 +80,10 @@ pub record Opened (head : Record) (tail : List Record) (ls : List LayerOf) : Typ
   pub activation_is : activation_at head.flag ≡ layer.activation
   pub value_is : head.value ≡ pos layer.inputs
   pub sized : Sized layer
-  pub all_sized : All Sized later
+  pub all_sized : AllByRecursion Sized later
   pub ahead : Ahead tail 0 head.index (nat_abs head.value) layer.neurons later
 
-pub layers_more : (rs : List Record) (head : Record) (tail : List Record) (ls : List LayerOf) → rs ≡ layer_records ls → All Sized ls → rs ≡ head ∷ tail → Opened head tail ls
+pub layers_more : (rs : List Record) (head : Record) (tail : List Record) (ls : List LayerOf) → rs ≡ layer_records ls → AllByRecursion Sized ls → rs ≡ head ∷ tail → Opened head tail ls
 layers_more rs head tail [] p s e = absurd (let z : ◌≡◌ {A = ℕ} 0 1 = cc in omega arith)
 layers_more rs head tail (l ∷ ls) p s e =
     let h = s.0 in
@@ -105,7 +105,7 @@ layers_none rs [] p e = refl
 layers_none rs (l ∷ ls) p e = absurd (let z : ◌≡◌ {A = ℕ} 0 1 = cc in omega arith)
 
 -- the first record of a plan has the samples that it takes
-pub head_inputs : (rs : List Record) (head : Record) (tail : List Record) (ls : List LayerOf) → rs ≡ layer_records ls → All Sized ls → rs ≡ head ∷ tail → (head.value ≡ pos (entrance ls)) × (entrance ls ≤ 64)
+pub head_inputs : (rs : List Record) (head : Record) (tail : List Record) (ls : List LayerOf) → rs ≡ layer_records ls → AllByRecursion Sized ls → rs ≡ head ∷ tail → (head.value ≡ pos (entrance ls)) × (entrance ls ≤ 64)
 head_inputs rs head tail ls p s e =
     let o = layers_more rs head tail ls p s e in
     (o.value_is ∙ ap (λ l. pos (entrance l)) (sym o.are), rw o.are o.sized.narrow)

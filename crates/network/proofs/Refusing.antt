@@ -1,6 +1,6 @@
 -- A plan that is refused at a record: that record is the first that breaks it, or that is missing.
 use Rattle.std.proofs.Common.{◌≡◌, ℕ, zero, suc, ◌+◌, ◌-◌, ◌<◌, ◌≤◌, Bool, true, false, cond, ◌⊎◌, List, [], ◌∷◌, length, take, replicate, pos, Some, None, Ok, Err, Option, Result, sym, refl, ap, ◌∙◌, subst, inl, inr, add-one, arith}
-use Rattle.std.specs.List.{AllByRecursion as All}
+use Rattle.std.specs.List.{AllByRecursion}
 use Rattle.std.proofs.lemmas.List.{length-replicate}
 use Rattle.std.proofs.lemmas.Bool.Decides.{nat_tests}
 use Rattle.network.specs.declared.record.Record.{Record}
@@ -31,7 +31,7 @@ live_more (Weight shape neuron input) m r s e = grind (arith, nat_tests)
 abbrev blank : ℕ → Neuron
 blank inputs = record { bias = pos 0; weights = replicate inputs (pos 0) }
 
-all_blank : (inputs k : ℕ) → All (λ n. length n.weights ≡ inputs) (replicate k (blank inputs))
+all_blank : (inputs k : ℕ) → AllByRecursion (λ n. length n.weights ≡ inputs) (replicate k (blank inputs))
 all_blank inputs zero = tt
 all_blank inputs (suc k) = (length-replicate inputs (pos 0), all_blank inputs k)
 

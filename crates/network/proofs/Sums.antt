@@ -1,7 +1,7 @@
 -- A net: what its products come to.
 use Rattle.std.proofs.Common.{◌≡◌, ℕ, zero, suc, ◌+◌, ◌*◌, ◌^◌, ◌<◌, ◌≤◌, Bool, true, false, cond, not, T, List, [], ◌∷◌, map, length, ℤ, pos, ◌+ℤ◌, ◌-ℤ◌, ◌*ℤ◌, nat_abs, Some, None, sym, refl, ap, ◌∙◌, subst, arith, nltb→le}
 use Rattle.std.proofs.lemmas.Int.{ints}
-use Rattle.std.specs.List.{AllByRecursion as All}
+use Rattle.std.specs.List.{AllByRecursion}
 use Rattle.stage.specs.Stage.{Rule}
 use Rattle.cordic.specs.Outcome.{State, Out, went, stopped, mapped, inside}
 use Rattle.cordic.specs.Order.{total, Reachable}
@@ -55,7 +55,7 @@ joined n u m y w r a b l h k = let h' = simp ring at h in let k' = simp ring at 
 pub record Sum (xs ws : List ℤ) (y : ℤ) (net : Net) (n : ℕ) (s : State) : Type 0 where
   pub inputs : map (λ k. k.input) net.terms ≡ xs
   pub weights : map (λ k. k.weight) net.terms ≡ ws
-  pub spent : All Spent net.terms
+  pub spent : AllByRecursion Spent net.terms
   pub near : Near y net
   pub counts : length net.terms ≡ length xs
   pub cost : n ≡ 28 * length ws

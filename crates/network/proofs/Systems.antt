@@ -1,6 +1,6 @@
 -- What the tables of the two systems that a neuron uses come to.
 use Rattle.std.proofs.Common.{◌≡◌, ℕ, ◌+◌, ◌-◌, ◌*◌, ◌^◌, ◌≤◌, List, [], ◌∷◌, length, refl, arith}
-use Rattle.std.specs.List.{AllByRecursion as All}
+use Rattle.std.specs.List.{AllByRecursion}
 use Rattle.cordic.specs.Order.{total, Covered}
 use Rattle.cordic.specs.Tables.{linear, hyperbolic}
 use Rattle.cordic.specs.declared.order.Iteration.{Iteration}
@@ -22,7 +22,7 @@ pub linear_total : total linear ≡ 2 ^ 28 - 1
 unfolding linear
 linear_total = refl
 
-pub hyperbolic_low : All (λ k. k.entry ≤ 2 ^ 30) hyperbolic
+pub hyperbolic_low : AllByRecursion (λ k. k.entry ≤ 2 ^ 30) hyperbolic
 unfolding hyperbolic
 hyperbolic_low = omega arith
 

@@ -3,7 +3,7 @@ use Rattle.std.proofs.Common.{◌≡◌, ℕ, ◌+◌, ◌*◌, ◌/◌, ◌^◌
 use lib.Arith.{le→nltb}
 use lib.Signed.{lt_z_yes}
 use Rattle.std.proofs.lemmas.Int.{ints}
-use Rattle.std.specs.List.{AllByRecursion as All}
+use Rattle.std.specs.List.{AllByRecursion}
 use Rattle.stage.specs.Step.{signed, turned}
 use Rattle.stage.specs.Stage.{Rule}
 use Rattle.cordic.specs.Outcome.{State, stopped, mapped}
@@ -56,7 +56,7 @@ inward (pos n) e b h l = omega (arith, ints)
 inward (negsuc n) e b h l = omega (arith, ints)
 
 -- an angle stays as small as it and all entries were
-angle_stays : (m : System) (b : ℕ) (ks : List Iteration) (t : Triple) → All (λ k. k.entry ≤ b) ks → nat_abs t.z ≤ b
+angle_stays : (m : System) (b : ℕ) (ks : List Iteration) (t : Triple) → AllByRecursion (λ k. k.entry ≤ b) ks → nat_abs t.z ≤ b
     → Always (λ u. nat_abs u.z ≤ b) m Rotation ks t
 angle_stays m b [] t a h = h
 angle_stays m b (k ∷ ks) t a h = (h, angle_stays m b ks (turned (told m Rotation k t) t) a.1 (inward t.z k.entry b a.0 h))

@@ -1,6 +1,6 @@
 -- What is true of every accepted run, and of every refused angle, in the words of the subject.
 use Rattle.std.specs.Prelude.{◌≡◌, ℕ, ◌+◌, ◌*◌, ◌^◌, ◌<◌, ◌≤◌, List, [], ◌∷◌, map, ℤ, pos, ◌+ℤ◌, ◌-ℤ◌, ◌*ℤ◌, ◌<ℤ◌, Some, None, unsigned_abs}
-use Rattle.std.specs.List.{AllByRecursion as All}
+use Rattle.std.specs.List.{AllByRecursion}
 use Rattle.stage.specs.Word.{shifted}
 use Rattle.cordic.specs.declared.order.Iteration.{Iteration}
 use Rattle.cordic.specs.Order.{Lawful, Reachable}
@@ -45,7 +45,7 @@ pub record Bounded (h : Activation) (xs : List ℤ) (n : Neuron) (w : Working) :
   pub bias : w.bias ≡ n.bias
   pub inputs : map (λ k. k.input) w.terms ≡ xs
   pub weights : map (λ k. k.weight) w.terms ≡ n.weights
-  pub spent : All Spent w.terms
+  pub spent : AllByRecursion Spent w.terms
   pub rounded : unsigned_abs ((pos (2 ^ 28) *ℤ (w.net -ℤ w.bias)) -ℤ exact w.terms) < budget w.terms
   pub result : Output h w
 

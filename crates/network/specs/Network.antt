@@ -2,7 +2,7 @@
 use Rattle.std.specs.Prelude.{◌≡◌, ℕ, ◌+◌, ◌/◌, ◌%◌, ◌≤◌, List, [], ◌∷◌, ◌++◌, length, take, ℤ, pos, FitsSigned}
 use Rattle.std.proofs.Common.{of_z}
 use Rattle.std.specs.Int.{w32}
-use Rattle.std.specs.List.{flat_map, AllByRecursion as All}
+use Rattle.std.specs.List.{flat_map, AllByRecursion}
 use Rattle.network.specs.declared.record.Record.{Record}
 use Rattle.network.specs.declared.activation.Activation.{Activation}
 use Rattle.network.specs.declared.activation.Activation.TheVariants.{Identity, Tanh}
@@ -31,7 +31,7 @@ pub record Sized (l : LayerOf) : Type 0 where
   pub few : length l.neurons ≤ 64
   pub fed : 1 ≤ l.inputs
   pub narrow : l.inputs ≤ 64
-  pub full : All (λ n. length n.weights ≡ l.inputs) l.neurons
+  pub full : AllByRecursion (λ n. length n.weights ≡ l.inputs) l.neurons
 
 -- each layer reads the outputs of the one before it, the first of them `width` outputs
 abbrev pub Follows : ℕ → List LayerOf → Type 0
@@ -45,12 +45,12 @@ Chained (l ∷ ls) = Follows (length l.neurons) ls
 pub record Shaped (ls : List LayerOf) : Type 0 where
   pub some : 1 ≤ length ls
   pub few : length ls ≤ 4
-  pub sized : All Sized ls
+  pub sized : AllByRecursion Sized ls
   pub chained : Chained ls
 
 -- biases and weights are words
 abbrev pub Words : List LayerOf → Type 0
-Words ls = All (λ l. All (λ n. FitsSigned w32 n.bias × All (λ w. FitsSigned w32 w) n.weights) l.neurons) ls
+Words ls = AllByRecursion (λ l. AllByRecursion (λ n. FitsSigned w32 n.bias × AllByRecursion (λ w. FitsSigned w32 w) n.weights) l.neurons) ls
 
 abbrev pub WellFormed : List LayerOf → Type 0
 WellFormed ls = Shaped ls × Words ls

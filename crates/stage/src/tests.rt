@@ -59,8 +59,16 @@ fn refuses_below_the_word(rt: HostRuntime) -> Result<(), Fail> {
     Ok(())
 }
 
-// Linear, d = +1, shift 0, from (2^30, 0, 0): y goes to 2^30, and the next step, to 2^31, is refused. A step under a
-// probe or a recorder takes the ticks of the stage below.
+// A step under a recorder takes the ticks of the stage below.
+#[test]
+fn records_with_the_ticks_below(rt: HostRuntime) -> Result<(), Fail> {
+    assert_eq!(rt; <Recorder<BitSerial> as Stage>::TICKS, 32);
+    assert_eq!(rt; <Recorder<Parallel> as Stage>::TICKS, 1);
+    Ok(())
+}
+
+// Linear, d = +1, shift 0, from (2^30, 0, 0): y goes to 2^30, and the next step, to 2^31, is refused. A step takes the 32
+// ticks of the stage below.
 #[test]
 fn counts_accepted_steps(rt: HostRuntime) -> Result<(), Fail> {
     let s = step(System::Linear, Direction::Plus, 0, 0)?;
@@ -70,8 +78,6 @@ fn counts_accepted_steps(rt: HostRuntime) -> Result<(), Fail> {
         z: 0,
     };
     assert_eq!(rt; <Probe<BitSerial> as Stage>::TICKS, 32);
-    assert_eq!(rt; <Recorder<BitSerial> as Stage>::TICKS, 32);
-    assert_eq!(rt; <Recorder<Parallel> as Stage>::TICKS, 1);
     let mut probe = Probe::new(BitSerial::new());
     probe.load(before);
     assert!(rt; probe.step(s).is_ok());

@@ -1,5 +1,5 @@
 use Rattle.std.proofs.Common.{◌≡◌, ◌+◌, ◌*◌, ◌≤◌, List, length}
-use Rattle.std.specs.List.{AllByRecursion as All}
+use Rattle.std.specs.List.{AllByRecursion}
 use Rattle.cordic.specs.Outcome.{counted}
 use Rattle.cordic.specs.Seen.{state_of}
 use Rattle.network.specs.Bank.{words_of}
@@ -12,7 +12,7 @@ use Rattle.network.proofs.layers.run_layers.Given as goal
 -- the layers that are left come, from here, to the whole
 abbrev pub invariant-loop-head : goal.invariant-loop-head
 invariant-loop-head g l =
-    (ls : List LayerOf) × (records l.rest ≡ layer_records ls) × All Sized ls × Follows (length (words_of l.answer.value)) ls
+    (ls : List LayerOf) × (records l.rest ≡ layer_records ls) × AllByRecursion Sized ls × Follows (length (words_of l.answer.value)) ls
     × (counted l.answer.steps (flown g.S.Stage.rule l.number ls (words_of l.answer.value) (state_of g.S.Stage l.answer.unit.stage))
     ≡ flown g.S.Stage.rule 0 (layers_of l.plan) (words_of l.initial.answer.value) (state_of g.S.Stage l.initial.answer.unit.stage))
     × (l.answer.steps ≤ 118400 * l.number) × (l.number + length ls ≤ 4)
