@@ -4,7 +4,7 @@ ghost use Rattle.stage.specs.declared.step.System.TheVariants.{Circular as Circu
 ghost use Rattle.cordic.specs.Order.{nth};
 ghost use Rattle.cordic.specs.Series.{NearAtan, OfEntry};
 ghost use Rattle.cordic.specs.Tables.{circular};
-ghost use borrow.Author.Rules.{rules};
+ghost use Rattle.std.proofs.Common.{rules};
 
 use super::coordinate::Coordinate;
 use super::order::Iteration;

@@ -4,7 +4,7 @@ ghost use Rattle.stage.specs.declared.step.System.TheVariants.{Hyperbolic as Hyp
 ghost use Rattle.cordic.specs.Order.{nth};
 ghost use Rattle.cordic.specs.Series.{NearAtanh, OfEntry};
 ghost use Rattle.cordic.specs.Tables.{hyperbolic};
-ghost use borrow.Author.Rules.{rules};
+ghost use Rattle.std.proofs.Common.{rules};
 
 use super::coordinate::Coordinate;
 use super::order::Iteration;

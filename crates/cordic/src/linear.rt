@@ -4,7 +4,7 @@ ghost use Rattle.stage.specs.declared.step.System.TheVariants.{Linear as LinearS
 ghost use Rattle.cordic.specs.Order.{nth};
 ghost use Rattle.cordic.specs.Series.{PowerEntry, OfEntry};
 ghost use Rattle.cordic.specs.Tables.{linear};
-ghost use borrow.Author.Rules.{rules};
+ghost use Rattle.std.proofs.Common.{rules};
 
 use super::coordinate::Coordinate;
 use super::order::Iteration;
