@@ -1,9 +1,9 @@
 -- What each report says of an outcome.
---   unit_of       a fault of the unit
+--   unit_of          a fault of the unit
 --   report_of_run    a run, on a stage of so many ticks in one step
---   plan_report   a plan that was judged
---   pass_report   a pass
---   no_such_system     no pass, since there is no such system: 100
+--   plan_report      a plan that was judged
+--   pass_report      a pass
+--   no_such_system   no pass, since there is no such system: 100
 use Rattle.std.specs.Prelude.{ℕ, ◌*◌, List, length, pos, Some, None, Ok, Err, Option, Result}
 use Rattle.stage.specs.declared.registers.Triple.{Triple}
 use Rattle.cordic.specs.Faults.{reported as unit_reported}

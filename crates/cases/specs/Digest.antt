@@ -1,5 +1,5 @@
 -- The digest of a list of triples.
---   mixed      the number becomes itself times 31 plus a register, modulo 2^32
+--   mixed       the number becomes itself times 31 plus a register, modulo 2^32
 --   mixed_all   the same for x, y and z of a triple
 --   digest_of   the same for each triple in order
 use Rattle.std.specs.Prelude.{ℕ, ◌*◌, ◌^◌, List, [], ◌∷◌, ℤ, pos, ◌+ℤ◌, unsigned_abs}

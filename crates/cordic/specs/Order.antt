@@ -1,10 +1,10 @@
 -- Orders of iterations: the tables of the coordinate systems, and the three laws that each keeps.
---   iteration    a shift and its entry
---   nth          the iteration at a place, if there is one
---   total        the sum of all entries
---   Lawful       every entry above zero, the last one 1, each at most the sum of the later ones plus 1
---   residue      what a choice of directions leaves of an angle
---   Reachable    some choice of directions, one for each iteration, leaves at most one unit
+--   iteration   a shift and its entry
+--   nth         the iteration at a place, if there is one
+--   total       the sum of all entries
+--   Lawful      every entry above zero, the last one 1, each at most the sum of the later ones plus 1
+--   residue     what a choice of directions leaves of an angle
+--   Reachable   some choice of directions, one for each iteration, leaves at most one unit
 use Rattle.std.specs.Prelude.{◌≡◌, ℕ, zero, suc, ◌+◌, ◌<◌, ◌≤◌, min, List, [], ◌∷◌, length, ℤ, pos, ◌-ℤ◌, Some, None, Option, unsigned_abs}
 use Rattle.std.proofs.Math.Nat.{min-le_right}
 use Rattle.std.specs.List.{AllByRecursion}

@@ -1,13 +1,13 @@
 -- What a part of a run comes to on a stage.
---   State     what a stage holds
---   Out       a value or a fault, the accepted steps of this part, and the stage's state after it
---   counted   with steps made before
---   onward    one part after another
---   mapped    a function of the value
---   inside    a fault inside another
+--   State      what a stage holds
+--   Out        a value or a fault, the accepted steps of this part, and the stage's state after it
+--   counted    with steps made before
+--   onward     one part after another
+--   mapped     a function of the value
+--   inside     a fault inside another
 --   steps_in   the accepted steps
---   AtEnd     a property of the value that an accepted part gives
---   bare      all but the notes
+--   AtEnd      a property of the value that an accepted part gives
+--   bare       all but the notes
 use Rattle.std.specs.Prelude.{ℕ, ◌+◌, List, [], ℤ}
 use Rattle.stage.specs.declared.registers.Triple.{Triple}
 

@@ -1,7 +1,7 @@
 -- When a whole number is nearest to 2^28 times an arc tangent, said in whole fractions.
 --   Fraction     numerator over denominator
---   atan_sum      the first n terms of t − t³/3 + t⁵/5 − .., t being 1 / q
---   atanh_sum     the first n terms of t + t³/3 + t⁵/5 + ..
+--   atan_sum     the first n terms of t − t³/3 + t⁵/5 − .., t being 1 / q
+--   atanh_sum    the first n terms of t + t³/3 + t⁵/5 + ..
 --   Nearest      2e − 1 < 2^29 × A < 2e + 1
 --   NearAtan     e is nearest to 2^28 × atan (2^−s): both ends of an enclosure of the arc tangent say so
 --   NearAtanh    the same of 2^28 × atanh (2^−s)

@@ -1,12 +1,12 @@
 -- The unit: which loads are refused, and the way of a triple through all iterations of a system.
---   refusal   why a load is refused
---   told      what an iteration tells the stage
---   took      one step of the stage
---   ran       all iterations, in order
---   loaded    a load
+--   refusal    why a load is refused
+--   told       what an iteration tells the stage
+--   took       one step of the stage
+--   ran        all iterations, in order
+--   loaded     a load
 --   unit_ran   the run of a loaded unit
---   passed    a load, its run and the read-out
---   Escapes   what the refusal of a step says
+--   passed     a load, its run and the read-out
+--   Escapes    what the refusal of a step says
 use Rattle.std.specs.Prelude.{◌≡◌, ℕ, ◌+◌, ◌*◌, Bool, false, cond, ◌||◌, List, [], ◌∷◌, ℤ, pos, ◌+ℤ◌, ◌*ℤ◌, Some, None, Ok, Err, Option, Result, int_lt, nat_lt, unsigned_abs}
 use Rattle.stage.specs.Word.{shifted}
 use Rattle.stage.specs.Step.{stepped}

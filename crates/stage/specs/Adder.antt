@@ -2,8 +2,8 @@
 --   Digits         whether n digits of k bits are a word
 --   complemented   a number, or the number with each of its bits turned
 --   wide           the bits of a word and of its sign, 64 in all
---   digit_of        k bits from a place on, or their complement
---   digit_sum       what a digit comes to, of two digits of k bits and a carry
+--   digit_of       k bits from a place on, or their complement
+--   digit_sum      what a digit comes to, of two digits of k bits and a carry
 use Rattle.std.specs.Prelude.{◌≡◌, ℕ, ◌+◌, ◌-◌, ◌*◌, ◌/◌, ◌%◌, ◌^◌, ◌<◌, ◌≤◌, Bool, true, false, ℤ, pos, negsuc}
 use Rattle.std.proofs.Common.{to_z, of_z}
 use Rattle.std.specs.Int.{w32, w64}

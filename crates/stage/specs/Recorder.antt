@@ -1,5 +1,5 @@
 -- What a recorder keeps and notes: the triple after each accepted step since the load, and the notes of the stage below it.
---   appended        one triple more, up to 64
+--   appended         one triple more, up to 64
 --   recorder_notes   how many triples are kept, these triples, and then the notes below
 --   recorded_in      the triples, read back from such notes
 --   below_record     the notes below, read back from such notes

@@ -1,8 +1,8 @@
 -- What a stage means: a triple, and notes with a rule.
---   Call         a call that changes a stage
---   Rule         what such a call makes of the notes
---   silent       the rule of a kind that has no notes
---   answered     what a step answers, by what it comes to
+--   Call          a call that changes a stage
+--   Rule          what such a call makes of the notes
+--   silent        the rule of a kind that has no notes
+--   answered      what a step answers, by what it comes to
 --   held_after    the triple that is then held
 --   noted_after   the notes that are then kept
 use Rattle.std.specs.Prelude.{List, [], ℤ, pos, Ok, Err, Result}

@@ -1,7 +1,7 @@
 -- Words: signed numbers of 32 bits, 28 of them fraction bits, so that raw r means r / 2^28.
 --   shifted   floor division by a power of two
---   is_word    whether a number lies in the word
---   in_word    the number, if it lies in the word
+--   is_word   whether a number lies in the word
+--   in_word   the number, if it lies in the word
 use Rattle.std.specs.Prelude.{ℕ, ◌/◌, ◌^◌, Bool, cond, ◌&&◌, ℤ, pos, negsuc, Some, None, Option, int_le}
 
 -- floor (v / 2^s), below zero too: negsuc n is −1 − n, and −1 shifted by 5 is −1

@@ -2,9 +2,9 @@
 --   number_in   the word that a decimal writes, if it writes one
 --   put_in      one of the five words more
 --   taken_in    one word more, an option or one of the five
---   finished   the request, or the first word that is missing
---   drafted    all words, up to the first that does not fit
---   Reads      what the reader answers to the words
+--   finished    the request, or the first word that is missing
+--   drafted     all words, up to the first that does not fit
+--   Reads       what the reader answers to the words
 use Rattle.std.specs.Prelude.{◌≡◌, ℕ, Bool, true, false, cond, ◌&&◌, ◌||◌, List, [], ◌∷◌, ℤ, Some, None, Ok, Err, string_bytes, codes, Option, Result, String, ◌==◌, slice_index}
 use Rattle.std.specs.Str.Parse.{without_leading_sign, signed_digits_value}
 use Rattle.std.specs.declared.alloc.Global.{Global}
