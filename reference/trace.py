@@ -20,7 +20,6 @@ usage: trace [options] SYSTEM MODE X Y Z
 
   --stage KIND     the stage to run on: parallel (the default) or bit-serial
   --probe          put a probe around the stage and print what it holds
-  --csv            print the registers as comma-separated values
   --help, -h       print this text
 
 With no arguments the first line of standard input is read in their place.
@@ -48,7 +47,6 @@ class Unreadable(Exception):
 class Request:
     stage: str = "parallel"
     probe: bool = False
-    csv: bool = False
     system: str | None = None
     mode: str | None = None
     start: tuple = ()
@@ -107,10 +105,8 @@ def read_request(words):
             request.stage = STAGE.take(kind)
         elif word == "--probe":
             request.probe = True
-        elif word == "--csv":
-            request.csv = True
         elif word.startswith("--"):
-            raise Unreadable(f"'{word}' is no option {listed(('--stage', '--probe', '--csv', '--help'))}")
+            raise Unreadable(f"'{word}' is no option {listed(('--stage', '--probe', '--help'))}")
         elif len(found) == len(WORDS):
             raise Unreadable(f"'{word}' is one word too many (SYSTEM MODE X Y Z)")
         else:
@@ -185,17 +181,6 @@ def printout(request, taken, refusal, stage):
             yield from named_rows("before", stage.before)
 
 
-def table(request, taken, refusal, stage):
-    yield "row,shift,entry,d,x,y,z"
-    yield ",".join(map(str, ("start", "", "", "", *request.start)))
-    for at, step in enumerate(taken, 1):
-        yield ",".join(map(str, (at, step.shift, step.entry, step.direction, *step.after)))
-    if refusal is None:
-        yield ",".join(map(str, ("result", "", "", "", *stage.read())))
-    else:
-        yield ",".join(map(str, (f"refused {refusal.number}", "", "", "", *(refusal.kept or ("", "", "")))))
-
-
 def answer(words):
     """All that is printed on standard output for the words of a request."""
     if "--help" in words or "-h" in words:
@@ -205,8 +190,7 @@ def answer(words):
     if request.probe:
         stage = cordic.Probe(stage)
     taken, refusal = cordic.run(request.system, request.mode, request.start, stage)
-    lines = (table if request.csv else printout)(request, taken, refusal, stage)
-    return "".join(line + "\n" for line in lines)
+    return "".join(line + "\n" for line in printout(request, taken, refusal, stage))
 
 
 def main():

@@ -1,6 +1,6 @@
 -- The names of systems, modes, stages and registers.
 --   named       what a table has under a name
---   *_names      the tables
+--   *_names     the tables
 --   name_of_*   the name of each
 use Rattle.std.specs.Prelude.{ℕ, cond, List, [], ◌∷◌, Some, None, codes, Option}
 use Rattle.std.specs.Str.{bytes_eq}
