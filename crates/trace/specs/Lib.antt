@@ -4,3 +4,4 @@ pub mod Figures
 pub mod Request
 pub mod Reader
 pub mod Marks
+pub mod Csv

@@ -1,6 +1,8 @@
 // The program `trace`: runs one request and prints every step of it.
 #![tactic(auto)]
 
+mod accepted;
+mod csv;
 mod figures;
 mod help;
 mod names;

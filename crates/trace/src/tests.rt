@@ -1,6 +1,9 @@
-// What the one run of the gate does not show: how values are rounded, and which word of a request is refused.
+// What the one run of the gate does not show: how values are rounded, which word of a request is refused, and lines of values.
+use super::accepted::Accepted;
+use super::csv::Line;
 use super::figures::Fraction;
 use super::reader::read_request;
+use stage::{Direction, Triple};
 use std::alloc::Global;
 use std::process::Abort;
 use std::test::Fail;
@@ -73,4 +76,26 @@ fn names_the_wrong_word(rt: HostRuntime) -> Result<(), Fail> {
         "linear rotation 1 2 3 --stage",
         "no stage is given (parallel, bit-serial)",
     )
+}
+
+fn line_is(rt: &impl Abort, heap: Global, line: Line, text: &str) -> Result<(), Fail> {
+    let shown = format!(in heap; "{line}")?;
+    assert!(rt; shown.as_str() == text, "{}", text);
+    Ok(())
+}
+
+// Seven fields a line: of a step all, of an overflow the kept triple, of a load out of reach none but the first.
+#[test]
+fn writes_lines_of_values(rt: HostRuntime) -> Result<(), Fail> {
+    let heap = rt.alloc();
+    let t = Triple { x: 1, y: -2, z: 3 };
+    let step = Accepted {
+        number: 4,
+        shift: 5,
+        entry: 67,
+        direction: Direction::Minus,
+    };
+    line_is(&rt, heap, Line::Step(step, t), "4,5,67,-1,1,-2,3")?;
+    line_is(&rt, heap, Line::Refused(7, Some(t)), "refused 7,,,,1,-2,3")?;
+    line_is(&rt, heap, Line::Refused(5, None), "refused 5,,,,,,")
 }
