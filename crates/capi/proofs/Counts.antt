@@ -15,9 +15,8 @@ few_outputs [] s = omega arith
 few_outputs (h ∷ []) s = s.0.few
 few_outputs (h ∷ v ∷ vs) s = few_outputs (v ∷ vs) s.1
 
-module _ (bytes : List ℕ) (hs : List LayerOf) (e : plan_of bytes ≡ Ok hs) where
-  pub entrance_few : entrance hs ≤ 64
-  entrance_few = few_inputs hs (plan_shaped bytes hs e).0.sized
+pub entrance_few : (bytes : List ℕ) {hs : List LayerOf} → plan_of bytes ≡ Ok hs → entrance hs ≤ 64
+entrance_few bytes e = few_inputs _ (plan_shaped bytes _ e).0.sized
 
-  pub exits_few : exits hs ≤ 64
-  exits_few = few_outputs hs (plan_shaped bytes hs e).0.sized
+pub exits_few : (bytes : List ℕ) {hs : List LayerOf} → plan_of bytes ≡ Ok hs → exits hs ≤ 64
+exits_few bytes e = few_outputs _ (plan_shaped bytes _ e).0.sized

@@ -1,17 +1,14 @@
-// The fields of a report, as numbers.
+// The fields of a report, as the numbers that C knows them by, which do not follow the order of the variants here.
 ghost use Rattle.std.specs.Prelude.{◌≡◌};
-ghost use Rattle.capi.specs.Fields.{field_of, number_of_system, number_of_mode, number_of_register, kept_of};
+ghost use Rattle.capi.specs.Fields.{field_of, number_of_system, number_of_mode, number_of_register};
 
 use cordic::Mode;
-use stage::{Register, System, Triple};
+use stage::{Register, System};
 
 pub(crate) fn field(found: Option<u32>) -> i64
     ensures answer { result ≡ field_of found }
 {
-    match found {
-        Some(n) => i64::from(n),
-        None => -1,
-    }
+    found.map_or(-1, i64::from)
 }
 
 pub(crate) fn system_number(system: System) -> i32
@@ -41,14 +38,5 @@ pub(crate) fn register_number(found: Option<Register>) -> i32
         Some(Register::Y) => 1,
         Some(Register::Z) => 2,
         None => -1,
-    }
-}
-
-pub(crate) fn kept(found: Option<Triple>) -> Triple
-    ensures answer { result ≡ kept_of found }
-{
-    match found {
-        Some(t) => t,
-        None => Triple { x: 0, y: 0, z: 0 },
     }
 }

@@ -11,23 +11,20 @@ use network::Plan;
 pub extern "C" fn cordic_check_plan(plan: &[u8], report: &mut PlanReport)
     ensures answer { report.new ≡ plan_report (plan_of plan.now) }
 {
-    match Plan::decode(plan) {
-        Ok(found) => {
-            *report = PlanReport {
-                number: 0,
-                inputs: found.inputs() as u32,
-                outputs: found.outputs() as u32,
-                record: -1,
-            };
-        }
+    *report = match Plan::decode(plan) {
+        // `u32::try_from` would add a case that never comes.
+        Ok(found) => PlanReport {
+            inputs: found.inputs() as u32,
+            outputs: found.outputs() as u32,
+            ..PlanReport::BLANK
+        },
         Err(fault) => {
             let told = fault.report();
-            *report = PlanReport {
+            PlanReport {
                 number: u32::from(told.number),
-                inputs: 0,
-                outputs: 0,
                 record: field(told.record),
-            };
+                ..PlanReport::BLANK
+            }
         }
-    }
+    };
 }

@@ -10,6 +10,7 @@ use super::runs::run_on;
 use network::SampleRecord;
 use stage::{BitSerial, Parallel};
 
+// C has no generic functions, so the run has an exported name for each stage.
 #[unsafe(no_mangle)]
 pub extern "C" fn cordic_run_parallel(
     plan: &[u8],

@@ -1,4 +1,4 @@
-// What the calls write for C. A number is 0 where the call was accepted; −1 stands for none, and 0 for a word that is not there.
+// What the calls write for C, which has numbers alone: 0 where the call was accepted, −1 for none, and 0 for a word that is not there.
 
 // What a fault of the unit carries. A step is counted from 1.
 #[derive(Clone, Copy)]
@@ -12,6 +12,19 @@ pub struct UnitReport {
     pub kept_x: i32,
     pub kept_y: i32,
     pub kept_z: i32,
+}
+
+impl UnitReport {
+    pub(crate) const NONE: UnitReport = UnitReport {
+        steps: 0,
+        system: -1,
+        mode: -1,
+        reg: -1,
+        step: -1,
+        kept_x: 0,
+        kept_y: 0,
+        kept_z: 0,
+    };
 }
 
 #[derive(Clone, Copy)]
@@ -29,6 +42,21 @@ pub struct RunReport {
     pub unit: UnitReport,
 }
 
+impl RunReport {
+    pub(crate) const BLANK: RunReport = RunReport {
+        number: 0,
+        outputs: 0,
+        steps: 0,
+        neuron_steps: 0,
+        ticks: 0,
+        layer: -1,
+        neuron: -1,
+        input: -1,
+        record: -1,
+        unit: UnitReport::NONE,
+    };
+}
+
 #[derive(Clone, Copy)]
 #[repr(C)]
 pub struct PassReport {
@@ -40,6 +68,17 @@ pub struct PassReport {
     pub unit: UnitReport,
 }
 
+impl PassReport {
+    pub(crate) const BLANK: PassReport = PassReport {
+        number: 0,
+        steps: 0,
+        x: 0,
+        y: 0,
+        z: 0,
+        unit: UnitReport::NONE,
+    };
+}
+
 #[derive(Clone, Copy)]
 #[repr(C)]
 pub struct PlanReport {
@@ -47,4 +86,13 @@ pub struct PlanReport {
     pub inputs: u32,
     pub outputs: u32,
     pub record: i64,
+}
+
+impl PlanReport {
+    pub(crate) const BLANK: PlanReport = PlanReport {
+        number: 0,
+        inputs: 0,
+        outputs: 0,
+        record: -1,
+    };
 }

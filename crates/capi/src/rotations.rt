@@ -1,70 +1,52 @@
 // One rotation on a parallel stage that was just made.
 ghost use Rattle.std.specs.Prelude.{◌≡◌, ◌≤◌, unsigned_abs};
 ghost use Rattle.stage.specs.Stage.{silent};
+ghost use Rattle.cordic.specs.Tables.{order};
 ghost use Rattle.cordic.specs.Unit.{passed};
 ghost use Rattle.cordic.specs.declared.mode.Mode.TheVariants.{Rotation};
 ghost use Rattle.capi.specs.Feeds.{fresh};
-ghost use Rattle.capi.specs.Reports.{pass_report, ended_pass, refused_pass, no_such_system};
+ghost use Rattle.capi.specs.Reports.{pass_report};
 ghost use Rattle.capi.specs.Rotations.{system_of, rotation};
 
-use super::reports::PassReport;
-use super::told::{no_unit, unit_report};
-use cordic::{Answer, Circular, Coordinate, Hyperbolic, Idle, Linear, Mode, Refused, UnitFault};
-use stage::{Parallel, Triple};
+use super::reports::{PassReport, UnitReport};
+use cordic::{Answer, Idle, Mode, Refused};
+use stage::{Parallel, System, Triple};
 
-fn ended(t: Triple, steps: u32) -> PassReport
-    ensures answer { result ≡ ended_pass t steps }
+// The system that C knows by this number.
+fn numbered(system: u32) -> Option<System>
+    ensures answer { result ≡ system_of system }
 {
-    PassReport {
-        number: 0,
-        steps,
-        x: t.x,
-        y: t.y,
-        z: t.z,
-        unit: no_unit(),
+    match system {
+        0 => Some(System::Linear),
+        1 => Some(System::Circular),
+        2 => Some(System::Hyperbolic),
+        _ => None,
     }
 }
 
-fn refused(fault: UnitFault, steps: u32) -> PassReport
-    ensures answer { result ≡ refused_pass fault steps }
-{
-    PassReport {
-        number: u32::from(fault.report().number),
-        steps,
-        x: 0,
-        y: 0,
-        z: 0,
-        unit: unit_report(fault),
-    }
-}
-
-fn no_system() -> PassReport
-    ensures answer { result ≡ no_such_system }
-{
-    PassReport {
-        number: 100,
-        steps: 0,
-        x: 0,
-        y: 0,
-        z: 0,
-        unit: no_unit(),
-    }
-}
-
-fn rotated<C: Coordinate + Copy>(system: C, t: Triple) -> PassReport
-    ensures answer { result ≡ pass_report (passed silent C.Coordinate.kind C.Coordinate.order Rotation t fresh) }
+fn rotated(system: System, t: Triple) -> PassReport
+    ensures answer { result ≡ pass_report (passed silent system (order system) Rotation t fresh) }
     ensures rotation_ends { unsigned_abs result.z ≤ 1 }
 {
-    match Idle::new(Parallel::new()).pass(system, Mode::Rotation, t) {
-        Ok(a) => {
-            let Answer { unit, value, steps } = a;
+    match Idle::new(Parallel::new()).pass_in(system, Mode::Rotation, t) {
+        Ok(Answer { unit, value, steps }) => {
             unit.into_stage();
-            ended(value, steps)
+            PassReport {
+                steps,
+                x: value.x,
+                y: value.y,
+                z: value.z,
+                ..PassReport::BLANK
+            }
         }
-        Err(e) => {
-            let Refused { unit, fault, steps } = e;
+        Err(Refused { unit, fault, steps }) => {
             unit.into_stage();
-            refused(fault, steps)
+            PassReport {
+                number: u32::from(fault.report().number),
+                steps,
+                unit: UnitReport::from(fault),
+                ..PassReport::BLANK
+            }
         }
     }
 }
@@ -74,11 +56,11 @@ pub extern "C" fn cordic_rotate(x: i32, y: i32, z: i32, system: u32, report: &mu
     ensures answer { report.new ≡ rotation (system_of system) (record { x = x; y = y; z = z }) }
     ensures rotation_ends { unsigned_abs report.new.z ≤ 1 }
 {
-    let t = Triple { x, y, z };
-    *report = match system {
-        0 => rotated(Linear, t),
-        1 => rotated(Circular, t),
-        2 => rotated(Hyperbolic, t),
-        _ => no_system(),
+    *report = match numbered(system) {
+        Some(system) => rotated(system, Triple { x, y, z }),
+        None => PassReport {
+            number: 100,
+            ..PassReport::BLANK
+        },
     };
 }

@@ -18,7 +18,7 @@ pub(crate) fn run_on<S: Stage + Drop, P: Sample>(
     out: &mut [i32],
     report: &mut RunReport,
 )
-    ensures answer { report.new ≡ report_of_run S.Stage.ticks (recurrence (feed_of S.Stage P.Sample plan.now samples.now out.old stage)) }
+    ensures answer { report.new ≡ report_of_run S.Stage.TICKS (recurrence (feed_of S.Stage P.Sample plan.now samples.now out.old stage)) }
     ensures lent { out.new ≡ written (recurrence (feed_of S.Stage P.Sample plan.now samples.now out.old stage)) out.old }
     ensures means { Explains (feed_of S.Stage P.Sample plan.now samples.now out.old stage) (recurrence (feed_of S.Stage P.Sample plan.now samples.now out.old stage)) }
 {

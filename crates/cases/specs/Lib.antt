@@ -1,5 +1,3 @@
--- What is read, what a stage is loaded with, and the digest.
-pub mod Names
-pub mod Hex
+-- What a stage is loaded with, and the digest.
 pub mod Start
 pub mod Digest

@@ -17,11 +17,7 @@ fn mix_triple(hash: u32, t: Triple) -> u32
 }
 
 pub(crate) fn digest(triples: &[Triple]) -> u32
-    ensures answer { result ≡ digest_of 0 triples.now }
+    ensures answer { result ≡ digest_of triples.now }
 {
-    let mut hash = 0;
-    for t in triples {
-        hash = mix_triple(hash, *t);
-    }
-    hash
+    triples.iter().fold(0, |hash, t| mix_triple(hash, *t))
 }

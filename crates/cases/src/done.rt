@@ -13,11 +13,10 @@ pub struct Done {
 
 impl fmt::Display for Done {
     fn fmt<W: fmt::Write>(&self, f: &mut fmt::Formatter<W>) -> fmt::Result {
-        let outcome = &self.outcome;
-        let left = self.left;
+        write!(f, "{} {}", self.outcome, self.left)?;
         match self.recorded {
-            Some(recorded) => write!(f, "{outcome} {left} {recorded}"),
-            None => write!(f, "{outcome} {left}"),
+            Some(recorded) => write!(f, " {recorded}"),
+            None => Ok(()),
         }
     }
 }

@@ -1,7 +1,7 @@
 // What is left in the stage after a request, as the probe around it tells.
 ghost use Rattle.std.specs.Prelude.{◌≡◌};
 
-use super::fields::Registers;
+use super::registers::Registers;
 use stage::{Probe, Stage, Triple};
 use std::fmt;
 
@@ -12,11 +12,10 @@ pub struct Left {
     before: Option<Triple>,
 }
 
-impl Left {
-    pub(crate) fn of<S: Stage>(probe: &Probe<S>) -> Left
-        ensures held { result.held ≡ S.Stage.triple probe.now.below }
-        ensures recorded { (result.accepted ≡ probe.now.tally.accepted) × (result.before ≡ probe.now.tally.before) }
-    {
+impl<S: Stage> From<&Probe<S>> for Left {
+    ghost from_gives = { λ probe left. (left.held ≡ S.Stage.triple probe.now.below) × ((left.accepted ≡ probe.now.tally.accepted) × (left.before ≡ probe.now.tally.before)) };
+
+    fn from(probe: &Probe<S>) -> Left {
         Left {
             held: probe.read(),
             accepted: probe.accepted(),
@@ -27,11 +26,12 @@ impl Left {
 
 impl fmt::Display for Left {
     fn fmt<W: fmt::Write>(&self, f: &mut fmt::Formatter<W>) -> fmt::Result {
-        let held = Registers {
-            value: Some(self.held),
-        };
-        let count = self.accepted;
-        let before = Registers { value: self.before };
-        write!(f, "held {held} count {count} before {before}")
+        write!(
+            f,
+            "held {} count {} before {}",
+            Registers(Some(self.held)),
+            self.accepted,
+            Registers(self.before),
+        )
     }
 }

@@ -3,29 +3,29 @@
 
 mod digest;
 mod done;
-mod fields;
-mod hex;
 mod left;
-mod names;
 mod outcome;
 mod pass;
 mod places;
+mod plan;
 mod reader;
 mod recorded;
+mod registers;
 mod request;
+mod run_end;
 mod runs;
 mod stages;
+mod unit;
 
 use done::Done;
-use names::Kind;
 use reader::read_request;
 use request::{Request, RequestFault};
-use stage::{BitSerial, Parallel};
+use stage::{BitSerial, Kind, Parallel};
 use stages::run_on;
 use std::alloc::Global;
 use std::{fmt, io};
 
-// Why the program ends with status 1. Lines are counted from 1.
+// Why the program ends with status 1. Lines are counted from 1. (By hand, as in `trace`: a derive would ask for a message of each variant as well.)
 #[derive(Drop)]
 enum Failure {
     Request { line: usize, fault: RequestFault },
@@ -49,8 +49,7 @@ impl fmt::Debug for Failure {
 }
 
 fn print_line(out: &impl Print, number: usize, kind: Kind, done: Done) -> io::Result<()> {
-    let stage = kind.name();
-    println!(out; "{number} {stage} {done}")
+    println!(out; "{number} {kind} {done}")
 }
 
 fn print_lines(out: &impl Print, heap: Global, number: usize, request: &Request) -> io::Result<()> {
@@ -65,15 +64,11 @@ fn run(rt: &HostRuntime) -> Result<(), Failure> {
     let text = io::read_to_string(heap, rt.stdin())?;
     for (i, line) in text.as_str().lines().enumerate() {
         let number = i.saturating_add(1);
-        match read_request(heap, line) {
-            Ok(request) => print_lines(rt, heap, number, &request)?,
-            Err(fault) => {
-                return Err(Failure::Request {
-                    line: number,
-                    fault,
-                });
-            }
-        }
+        let request = read_request(heap, line).map_err(|fault| Failure::Request {
+            line: number,
+            fault,
+        })?;
+        print_lines(rt, heap, number, &request)?;
     }
     Ok(())
 }

@@ -8,9 +8,5 @@ use std::alloc::{AllocError, Global};
 pub(crate) fn lend(heap: Global, count: u8) -> Result<Vec<i32>, AllocError>
     ensures lent { IfOk result (λ v. v.items ≡ map (λ i. negsuc i) (range_with_len 0 count)) }
 {
-    let mut places = Vec::new(heap);
-    for i in 0..count {
-        places.push(-1 - i32::from(i))?;
-    }
-    Ok(places)
+    (0..count).map(|i| -1 - i32::from(i)).collect(heap)
 }

@@ -1,6 +1,5 @@
 // What a recorder has kept of a pass: how many triples, and their digest.
 ghost use Rattle.std.specs.Prelude.{◌≡◌, length};
-ghost use Rattle.stage.specs.Log.{logged};
 ghost use Rattle.cases.specs.Digest.{digest_of};
 
 use super::digest::digest;
@@ -13,10 +12,10 @@ pub struct Recorded {
     digest: u32,
 }
 
-impl Recorded {
-    pub(crate) fn of<S>(recorder: &Recorder<S>) -> Recorded
-        ensures recorded { (result.triples ≡ length (logged recorder.now.log)) × (result.digest ≡ digest_of 0 (logged recorder.now.log)) }
-    {
+impl<S> From<&Recorder<S>> for Recorded {
+    ghost from_gives = { λ recorder recorded. (recorded.triples ≡ length (recorder.now.log.items)) × (recorded.digest ≡ digest_of (recorder.now.log.items)) };
+
+    fn from(recorder: &Recorder<S>) -> Recorded {
         let triples = recorder.triples();
         Recorded {
             triples: triples.len(),
@@ -27,8 +26,6 @@ impl Recorded {
 
 impl fmt::Display for Recorded {
     fn fmt<W: fmt::Write>(&self, f: &mut fmt::Formatter<W>) -> fmt::Result {
-        let triples = self.triples;
-        let digest = self.digest;
-        write!(f, "triples {triples} digest {digest:08x}")
+        write!(f, "triples {} digest {:08x}", self.triples, self.digest)
     }
 }

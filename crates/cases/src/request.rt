@@ -38,9 +38,9 @@ pub enum Wanted {
     Records,
 }
 
-impl Wanted {
-    fn name(self) -> &'static str {
-        match self {
+impl fmt::Display for Wanted {
+    fn fmt<W: fmt::Write>(&self, f: &mut fmt::Formatter<W>) -> fmt::Result {
+        f.write_str(match self {
             Wanted::Form =>
                 "request (pass SYSTEM MODE X Y Z, run converter PLACES PLAN .., run records PLACES PLAN ..)",
             Wanted::System => "coordinate system (linear, circular, hyperbolic)",
@@ -50,14 +50,21 @@ impl Wanted {
             Wanted::Plan => "plan (two hex digits to a byte, or -)",
             Wanted::Converter => "converter word (-32768 to 32767)",
             Wanted::Records => "sample record (a status, 0 to 255, and a value)",
-        }
+        })
     }
 }
 
+// What is wrong with a line, or that memory ran out. (An error enum with a `From` for each, which `?` uses.)
 #[derive(Clone, Copy)]
 pub enum RequestFault {
     No(Wanted),
     Memory,
+}
+
+impl From<Wanted> for RequestFault {
+    fn from(wanted: Wanted) -> RequestFault {
+        RequestFault::No(wanted)
+    }
 }
 
 impl From<AllocError> for RequestFault {
@@ -75,10 +82,7 @@ impl<T: Drop> From<AllocFailed<T>> for RequestFault {
 impl fmt::Display for RequestFault {
     fn fmt<W: fmt::Write>(&self, f: &mut fmt::Formatter<W>) -> fmt::Result {
         match self {
-            RequestFault::No(wanted) => {
-                let name = wanted.name();
-                write!(f, "no {name}")
-            }
+            RequestFault::No(wanted) => write!(f, "no {wanted}"),
             RequestFault::Memory => write!(f, "no memory is left"),
         }
     }

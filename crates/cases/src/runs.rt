@@ -1,8 +1,9 @@
 // One run of a network over a probe.
 use super::done::Done;
 use super::left::Left;
-use super::outcome::{Outcome, RunEnd};
+use super::outcome::Outcome;
 use super::places::lend;
+use super::run_end::RunEnd;
 use cordic::Idle;
 use network::{Ran, Sample, run};
 use stage::{Probe, Stage};
@@ -30,7 +31,7 @@ pub(crate) fn run_network<S: Stage + Drop, P: Sample>(
             ticks,
             places,
         }),
-        left: Left::of(&probe),
+        left: Left::from(&probe),
         recorded: None,
     })
 }

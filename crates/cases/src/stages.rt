@@ -39,21 +39,25 @@ pub(crate) fn run_on<S: Stage + Drop>(
             samples,
             places,
             plan,
-        } => match samples {
-            Samples::Converter(words) => run_network(
-                heap,
-                probed(stage),
-                plan.as_slice(),
-                words.as_slice(),
-                *places,
-            ),
-            Samples::Records(records) => run_network(
-                heap,
-                probed(stage),
-                plan.as_slice(),
-                records.as_slice(),
-                *places,
-            ),
-        },
+        } => {
+            let (stage, plan) = (probed(stage), plan.as_slice());
+            // One kind of sample made of both would have no fewer lines, and the library's two would not be run as they are.
+            match samples {
+                Samples::Converter(words) => run_network(
+                    heap,
+                    stage,
+                    plan,
+                    words.as_slice(),
+                    *places,
+                ),
+                Samples::Records(records) => run_network(
+                    heap,
+                    stage,
+                    plan,
+                    records.as_slice(),
+                    *places,
+                ),
+            }
+        }
     }
 }

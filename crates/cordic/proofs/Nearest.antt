@@ -1,7 +1,7 @@
 -- A table's rule at each of its entries, from one test over the table that antt computes.
-use Rattle.std.proofs.Common.{◌≡◌, ℕ, zero, suc, ◌-◌, ◌^◌, Bool, true, false, ◌&&◌, T, eqb, List, [], ◌∷◌, pos, ◌+ℤ◌, ◌-ℤ◌, ◌*ℤ◌, Option, eqb→eq}
+use Rattle.std.proofs.Common.{ℕ, zero, suc, ◌-◌, ◌^◌, Bool, true, false, ◌&&◌, T, eqb, List, [], ◌∷◌, pos, ◌+ℤ◌, ◌-ℤ◌, ◌*ℤ◌, eqb→eq}
 use lib.Signed.{lt_z, lt_z_yes}
-use Rattle.cordic.specs.Order.{nth}
+use Rattle.std.specs.List.{AllByRecursion}
 use Rattle.cordic.specs.Series.{Fraction, plus, term, atan_sum, atanh_sum, Nearest, NearAtan, NearAtanh, PowerEntry, OfEntry}
 use Rattle.cordic.specs.Tables.{linear, circular, hyperbolic}
 use Rattle.cordic.specs.declared.order.Iteration.{Iteration}
@@ -20,13 +20,10 @@ module _ (test : ℕ → ℕ → Bool) (Rule : ℕ → ℕ → Type 0) (sound : 
   every [] = true
   every (k ∷ ks) = test k.shift.amount k.entry && every ks
 
-  at_each : (ks : List Iteration) → T (every ks) → (i : ℕ) → OfEntry Rule (nth ks i)
-  at_each [] t i = tt
-  at_each (k ∷ ks) t zero = sound k.shift.amount k.entry (both_left (test k.shift.amount k.entry) (every ks) t)
-  at_each (k ∷ ks) t (suc i) = at_each ks (both_right (test k.shift.amount k.entry) (every ks) t) i
-
-  of_each : (ks : List Iteration) → T (every ks) → (i : ℕ) (r : Option Iteration) → r ≡ nth ks i → OfEntry Rule r
-  of_each ks t i r e = rw e (at_each ks t i)
+  of_each : (ks : List Iteration) → T (every ks) → AllByRecursion (OfEntry Rule) ks
+  of_each [] t = tt
+  of_each (k ∷ ks) t =
+      (sound k.shift.amount k.entry (both_left (test k.shift.amount k.entry) (every ks) t), of_each ks (both_right (test k.shift.amount k.entry) (every ks) t))
 
 abbrev low : ℕ → Fraction → Bool
 low e a = lt_z (((pos 2 *ℤ pos e) -ℤ pos 1) *ℤ pos a.den) (pos (2 ^ 29) *ℤ a.num)
@@ -58,14 +55,14 @@ near_atanh s e = near e (atanh_sum (2 ^ s) 20) && near e (plus (atanh_sum (2 ^ s
 near_atanh_lem : (s e : ℕ) → T (near_atanh s e) → NearAtanh s e
 near_atanh_lem s e t = between e (atanh_sum (2 ^ s) 20) (plus (atanh_sum (2 ^ s) 20) (term 2 (2 ^ s) 20)) t
 
-pub circular_rule : (i : ℕ) (r : Option Iteration) → r ≡ nth circular i → OfEntry NearAtan r
+pub circular_rule : AllByRecursion (OfEntry NearAtan) circular
 unfolding circular
 circular_rule = of_each near_atan NearAtan near_atan_lem circular tt
 
-pub hyperbolic_rule : (i : ℕ) (r : Option Iteration) → r ≡ nth hyperbolic i → OfEntry NearAtanh r
+pub hyperbolic_rule : AllByRecursion (OfEntry NearAtanh) hyperbolic
 unfolding hyperbolic
 hyperbolic_rule = of_each near_atanh NearAtanh near_atanh_lem hyperbolic tt
 
-pub linear_rule : (i : ℕ) (r : Option Iteration) → r ≡ nth linear i → OfEntry PowerEntry r
+pub linear_rule : AllByRecursion (OfEntry PowerEntry) linear
 unfolding linear
 linear_rule = of_each (λ s e. eqb e (2 ^ (28 - s))) PowerEntry (λ s e t. eqb→eq e (2 ^ (28 - s)) t) linear tt

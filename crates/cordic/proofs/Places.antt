@@ -1,10 +1,12 @@
 -- The iteration at a place of an order.
-use Rattle.std.proofs.Common.{◌≡◌, ℕ, zero, suc, ◌+◌, ◌<◌, ◌≤◌, min, List, [], ◌∷◌, map, length, get_or, drop, Some, None, refl, ap, subst, le_of_suc-le-suc, not-suc-le-zero, suc-add, arith}
+use Rattle.std.proofs.Common.{◌≡◌, ℕ, zero, suc, ◌+◌, ◌<◌, ◌≤◌, min, List, [], ◌∷◌, map, length, slice_index_or, drop, Some, None, sym, refl, ap, ◌∙◌, subst, le_of_suc-le-suc, not-suc-le-zero, suc-add, arith}
 use native.Mathlib.Bridge.{le_prop}
 use Rattle.std.specs.List.{AllByRecursion}
+use Rattle.std.proofs.lemmas.List.{length-map}
 use Rattle.stage.specs.declared.shift.Shift.{Shift}
 use Rattle.cordic.specs.Order.{shift_of, iteration, nth}
 use Rattle.cordic.specs.declared.order.Iteration.{Iteration}
+use Rattle.cordic.specs.declared.order.Row.{Row}
 
 shift_same : (m n : ℕ) (p : m ≤ 31) (q : n ≤ 31) → m ≡ n → ◌≡◌ {A = Shift} (record { amount = m; within = p }) (record { amount = n; within = q })
 shift_same m n p q e =
@@ -15,15 +17,21 @@ shift_same m n p q e =
 pub shift_is : (s : Shift) (n : ℕ) → s.amount ≡ min n 31 → s ≡ shift_of n
 shift_is s n e = shift_same _ _ _ _ e
 
-pub nth_row : (rows : List (ℕ × ℕ)) (i : ℕ) → i < length rows → Some (iteration (get_or rows i (0, 0))) ≡ nth (map iteration rows) i
-nth_row [] i h = absurd (not-suc-le-zero h)
-nth_row (r ∷ rows) zero h = refl
-nth_row (r ∷ rows) (suc i) h = nth_row rows i (le_of_suc-le-suc h)
+-- the order that a table holds
+pub row_at : (rows : List Row) (ks : List Iteration) (i : ℕ) → map iteration rows ≡ ks → i < length rows
+    → Some (iteration (slice_index_or rows i (record { shift = 0; entry = 0 }))) ≡ nth ks i
+row_at [] ks i e h = absurd (not-suc-le-zero h)
+row_at (r ∷ rows) [] i e h = cc
+row_at (r ∷ rows) (k ∷ ks) zero e h = cc
+row_at (r ∷ rows) (k ∷ ks) (suc i) e h = let f : map iteration rows ≡ ks = cc in row_at rows ks i f (le_of_suc-le-suc h)
 
-pub no_row : (rows : List (ℕ × ℕ)) (i : ℕ) → length rows ≤ i → None ≡ nth (map iteration rows) i
+pub as_long : (rows : List Row) (ks : List Iteration) → map iteration rows ≡ ks → length rows ≡ length ks
+as_long rows ks e = sym (length-map rows iteration) ∙ ap length e
+
+pub no_row : (ks : List Iteration) (i : ℕ) → length ks ≤ i → None ≡ nth ks i
 no_row [] i h = refl
-no_row (r ∷ rows) zero h = absurd (not-suc-le-zero h)
-no_row (r ∷ rows) (suc i) h = no_row rows i (le_of_suc-le-suc h)
+no_row (k ∷ ks) zero h = absurd (not-suc-le-zero h)
+no_row (k ∷ ks) (suc i) h = no_row ks i (le_of_suc-le-suc h)
 
 -- what is left of an order, from a place on
 pub drop_some : (ks : List Iteration) (i : ℕ) (k : Iteration) → Some k ≡ nth ks i → drop i ks ≡ k ∷ drop (i + 1) ks

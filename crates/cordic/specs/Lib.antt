@@ -10,3 +10,4 @@ pub mod Rows
 pub mod Seen
 pub mod Halted
 pub mod Advanced
+pub mod Names

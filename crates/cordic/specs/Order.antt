@@ -12,14 +12,15 @@ use Rattle.stage.specs.Step.{signed}
 use Rattle.stage.specs.declared.shift.Shift.{Shift}
 use Rattle.stage.specs.declared.step.Direction.{Direction}
 use Rattle.cordic.specs.declared.order.Iteration.{Iteration}
+use Rattle.cordic.specs.declared.order.Row.{Row}
 
 -- a shift of 0 to 31
 abbrev pub shift_of : ℕ → Shift
 shift_of s = record { amount = min s 31; within = min-le_right s 31 }
 
 -- a row of a table
-abbrev pub iteration : ℕ × ℕ → Iteration
-iteration row = record { shift = shift_of row.0; entry = row.1 }
+abbrev pub iteration : Row → Iteration
+iteration row = record { shift = shift_of row.shift; entry = row.entry }
 
 abbrev pub nth : List Iteration → ℕ → Option Iteration
 nth [] i = None

@@ -6,7 +6,7 @@
 --   NearAtan     e is nearest to 2^28 × atan (2^−s): both ends of an enclosure of the arc tangent say so
 --   NearAtanh    the same of 2^28 × atanh (2^−s)
 --   PowerEntry   e = 2^(28 − s)
-use Rattle.std.specs.Prelude.{◌≡◌, ℕ, zero, suc, ◌+◌, ◌-◌, ◌*◌, ◌^◌, ℤ, pos, ◌+ℤ◌, ◌-ℤ◌, ◌*ℤ◌, neg_ℤ, ◌<ℤ◌, Some, None, Option}
+use Rattle.std.specs.Prelude.{◌≡◌, ℕ, zero, suc, ◌+◌, ◌-◌, ◌*◌, ◌^◌, ℤ, pos, ◌+ℤ◌, ◌-ℤ◌, ◌*ℤ◌, neg_ℤ, ◌<ℤ◌}
 use Rattle.cordic.specs.declared.order.Iteration.{Iteration}
 
 pub record Fraction : Type 0 where
@@ -53,7 +53,6 @@ NearAtanh s e = Nearest e (atanh_sum (2 ^ s) 20) × Nearest e (plus (atanh_sum (
 abbrev pub PowerEntry : ℕ → ℕ → Type 0
 PowerEntry s e = e ≡ 2 ^ (28 - s)
 
--- of the shift and the entry of an iteration, if there is one
-abbrev pub OfEntry : (ℕ → ℕ → Type 0) → Option Iteration → Type 0
-OfEntry P None = Unit {0}
-OfEntry P (Some k) = P k.shift.amount k.entry
+-- of the shift and the entry of an iteration
+abbrev pub OfEntry : (ℕ → ℕ → Type 0) → Iteration → Type 0
+OfEntry P k = P k.shift.amount k.entry

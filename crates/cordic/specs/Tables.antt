@@ -2,11 +2,11 @@
 use Rattle.std.specs.Prelude.{ℕ, List, [], ◌∷◌}
 use Rattle.stage.specs.declared.step.System.{System}
 use Rattle.stage.specs.declared.step.System.TheVariants.{Linear, Circular, Hyperbolic}
-use Rattle.cordic.specs.Order.{iteration}
+use Rattle.cordic.specs.Order.{shift_of}
 use Rattle.cordic.specs.declared.order.Iteration.{Iteration}
 
 abbrev it : ℕ → ℕ → Iteration
-it s e = iteration (s, e)
+it s e = record { shift = shift_of s; entry = e }
 
 -- shifts 1 to 28, entry 2^(28 − s)
 unfoldable pub linear : List Iteration

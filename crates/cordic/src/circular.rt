@@ -1,17 +1,17 @@
 // The circular system: m = +1, shifts 0 to 28, entry nearest to 2^28 × atan (2^−s).
-ghost use Rattle.std.specs.Prelude.{◌≡◌};
+ghost use Rattle.std.specs.Prelude.{◌≡◌, map};
 ghost use Rattle.stage.specs.declared.step.System.TheVariants.{Circular as CircularSystem};
-ghost use Rattle.cordic.specs.Order.{nth};
+ghost use Rattle.std.specs.List.{AllByRecursion};
+ghost use Rattle.cordic.specs.Order.{iteration};
 ghost use Rattle.cordic.specs.Series.{NearAtan, OfEntry};
 ghost use Rattle.cordic.specs.Tables.{circular};
 ghost use Rattle.std.proofs.Common.{rules};
 
 use super::coordinate::Coordinate;
-use super::order::Iteration;
-use super::rows::iteration_at;
+use super::order::{Row, rows};
 use stage::System;
 
-const ROWS: [(u32, u32); 29] = [
+static ROWS: [Row; 29] = rows![
     (0, 210828714),
     (1, 124459457),
     (2, 65760959),
@@ -61,11 +61,11 @@ impl Coordinate for Circular {
         System::Circular
     }
 
-    fn at(&self, i: usize) -> Option<Iteration>
-        ensures answer { result ≡ nth circular i }
-        ensures rule { OfEntry NearAtan result }
+    fn rows() -> &'static [Row]
+        ensures answer { map iteration result.now ≡ circular }
+        ensures rule { AllByRecursion (OfEntry NearAtan) (map iteration result.now) }
     {
-        iteration_at(&ROWS, i)
+        &ROWS
     }
 
     fn total(&self) -> u64 {

@@ -1,11 +1,11 @@
 // A coordinate system: its order of iterations, and the laws from which a rotation converges.
-ghost use Rattle.std.specs.Prelude.{◌≡◌, ◌^◌, ◌<◌, ◌≤◌, List, length};
+ghost use Rattle.std.specs.Prelude.{◌≡◌, ◌^◌, ◌<◌, ◌≤◌, List, map, length};
 ghost use Rattle.std.specs.List.{AllByRecursion};
 ghost use Rattle.stage.specs.declared.step.System.{System};
-ghost use Rattle.cordic.specs.Order.{Lawful, nth, total as total_of};
+ghost use Rattle.cordic.specs.Order.{Lawful, iteration, total as total_of};
 ghost use Rattle.cordic.specs.declared.order.Iteration.{Iteration};
 
-use super::order::Iteration;
+use super::order::Row;
 use stage::System;
 
 pub trait Coordinate {
@@ -17,9 +17,9 @@ pub trait Coordinate {
     fn system(&self) -> System
         ensures answer { result ≡ kind };
 
-    // The iteration at a place, counted from 0, or none past the end.
-    fn at(&self, i: usize) -> Option<Iteration>
-        ensures answer { result ≡ nth order i };
+    // The table, a row for each iteration, in order.
+    fn rows() -> &'static [Row]
+        ensures answer { map iteration result.now ≡ order };
 
     // The sum of all entries.
     fn total(&self) -> u64

@@ -1,6 +1,10 @@
 // The faults of the unit. A stage's fault sits inside it.
+ghost use Rattle.std.specs.Prelude.{Some};
+ghost use Rattle.cordic.specs.Names.{sentence_of};
+
 use super::mode::Mode;
 use stage::{Overflow, Register, System, Triple};
+use std::fmt;
 
 #[derive(Clone, Copy, PartialEq, Eq, Debug)]
 pub enum Cause {
@@ -12,6 +16,18 @@ pub enum Cause {
     Overflowed { step: u32, overflow: Overflow },
 }
 
+impl fmt::Display for Cause {
+    ghost output = { λ cause. Some (sentence_of cause) };
+
+    fn fmt<W: fmt::Write>(&self, f: &mut fmt::Formatter<W>) -> fmt::Result {
+        f.write_str(match self {
+            Cause::Unreachable => "no choice of directions brings z within one unit of zero",
+            Cause::BadStart => "vectoring cannot start from this x and y",
+            Cause::Overflowed { .. } => "a register would leave the word",
+        })
+    }
+}
+
 // Steps are those accepted before the fault, from the start of the call that it ends.
 #[derive(Clone, Copy, PartialEq, Eq, Debug)]
 pub struct UnitFault {
@@ -21,7 +37,7 @@ pub struct UnitFault {
     pub steps: u32,
 }
 
-// All that a fault says, by its number.
+// All that a fault says, by its number. The numbers are fixed for those outside, in printouts and in C; inside, the fault is the enum above.
 #[derive(Clone, Copy, PartialEq, Eq, Debug)]
 pub struct Report {
     pub number: u8,

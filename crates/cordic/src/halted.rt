@@ -7,7 +7,7 @@ use super::mode::Mode;
 use super::states::{Idle, Refused};
 use stage::{Overflow, System};
 
-// Where a run stands: the steps made so far, and the number of the next, from 1.
+// Where a run stands: the steps made so far, and the number of the next, from 1, which `From` could not add up without a bound.
 #[derive(Clone, Copy)]
 pub(crate) struct Place {
     pub system: System,

@@ -1,17 +1,17 @@
 // The hyperbolic system: m = −1, shifts 1 to 28, with 4 and 13 each done twice in a row, entry nearest to 2^28 × atanh (2^−s).
-ghost use Rattle.std.specs.Prelude.{◌≡◌};
+ghost use Rattle.std.specs.Prelude.{◌≡◌, map};
 ghost use Rattle.stage.specs.declared.step.System.TheVariants.{Hyperbolic as HyperbolicSystem};
-ghost use Rattle.cordic.specs.Order.{nth};
+ghost use Rattle.std.specs.List.{AllByRecursion};
+ghost use Rattle.cordic.specs.Order.{iteration};
 ghost use Rattle.cordic.specs.Series.{NearAtanh, OfEntry};
 ghost use Rattle.cordic.specs.Tables.{hyperbolic};
 ghost use Rattle.std.proofs.Common.{rules};
 
 use super::coordinate::Coordinate;
-use super::order::Iteration;
-use super::rows::iteration_at;
+use super::order::{Row, rows};
 use stage::System;
 
-const ROWS: [(u32, u32); 30] = [
+static ROWS: [Row; 30] = rows![
     (1, 147453245),
     (2, 68561855),
     (3, 33730852),
@@ -62,11 +62,11 @@ impl Coordinate for Hyperbolic {
         System::Hyperbolic
     }
 
-    fn at(&self, i: usize) -> Option<Iteration>
-        ensures answer { result ≡ nth hyperbolic i }
-        ensures rule { OfEntry NearAtanh result }
+    fn rows() -> &'static [Row]
+        ensures answer { map iteration result.now ≡ hyperbolic }
+        ensures rule { AllByRecursion (OfEntry NearAtanh) (map iteration result.now) }
     {
-        iteration_at(&ROWS, i)
+        &ROWS
     }
 
     fn total(&self) -> u64 {

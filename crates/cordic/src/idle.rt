@@ -8,7 +8,7 @@ ghost use Rattle.cordic.specs.declared.mode.Mode.TheVariants.{Rotation};
 use super::coordinate::Coordinate;
 use super::faults::UnitFault;
 use super::mode::Mode;
-use super::refusal::refusal;
+use super::refusal::Start;
 use super::states::{Idle, Loaded, Refused};
 use stage::{Stage, Triple};
 
@@ -30,7 +30,7 @@ impl<S> Idle<S> {
 }
 
 impl<S: Stage> Idle<S> {
-    // One load of the stage, or a refusal, which leaves the stage as it was.
+    // One load of the stage, or a refusal, which leaves the stage as it was. (Three arguments, as in `pass`: a struct would be made for one call.)
     pub fn load<C: Coordinate + Copy>(
         self,
         system: C,
@@ -42,7 +42,13 @@ impl<S: Stage> Idle<S> {
         ensures reach { mode ≡ Rotation → (RefusedWith 5 result → Reachable C.Coordinate.order t.z → ⊥) × ((Reachable C.Coordinate.order t.z → ⊥) → RefusedWith 5 result) }
     {
         let Idle { mut stage } = self;
-        if let Some(cause) = refusal(&system, mode, t) {
+        let start = Start {
+            system,
+            mode,
+            triple: t,
+        };
+        // the unit goes back with the fault, so that `?` cannot return it
+        if let Some(cause) = start.refusal() {
             return Err(Refused {
                 unit: Idle { stage },
                 fault: UnitFault {

@@ -1,17 +1,17 @@
-// The linear system: m = 0, shifts 1 to 28, entry 2^(28 − s).
-ghost use Rattle.std.specs.Prelude.{◌≡◌};
+// The linear system: m = 0, shifts 1 to 28, entry 2^(28 − s). (Each of the three systems gives its own data and rule to the one trait.)
+ghost use Rattle.std.specs.Prelude.{◌≡◌, map};
 ghost use Rattle.stage.specs.declared.step.System.TheVariants.{Linear as LinearSystem};
-ghost use Rattle.cordic.specs.Order.{nth};
+ghost use Rattle.std.specs.List.{AllByRecursion};
+ghost use Rattle.cordic.specs.Order.{iteration};
 ghost use Rattle.cordic.specs.Series.{PowerEntry, OfEntry};
 ghost use Rattle.cordic.specs.Tables.{linear};
 ghost use Rattle.std.proofs.Common.{rules};
 
 use super::coordinate::Coordinate;
-use super::order::Iteration;
-use super::rows::iteration_at;
+use super::order::{Row, rows};
 use stage::System;
 
-const ROWS: [(u32, u32); 28] = [
+static ROWS: [Row; 28] = rows![
     (1, 134217728),
     (2, 67108864),
     (3, 33554432),
@@ -60,11 +60,11 @@ impl Coordinate for Linear {
         System::Linear
     }
 
-    fn at(&self, i: usize) -> Option<Iteration>
-        ensures answer { result ≡ nth linear i }
-        ensures rule { OfEntry PowerEntry result }
+    fn rows() -> &'static [Row]
+        ensures answer { map iteration result.now ≡ linear }
+        ensures rule { AllByRecursion (OfEntry PowerEntry) (map iteration result.now) }
     {
-        iteration_at(&ROWS, i)
+        &ROWS
     }
 
     fn total(&self) -> u64 {

@@ -21,6 +21,7 @@ fn told(system: System, mode: Mode, k: Iteration, t: Triple) -> Step
         system,
         direction: mode.direction(t),
         shift: k.shift,
+        // fits, by what is required
         entry: k.entry as i32,
     }
 }
@@ -32,6 +33,7 @@ fn advance<S: Stage>(mut stage: S, place: Place, k: Iteration) -> Result<S, Halt
     ensures same { IfErr result (λ h. h.place ≡ place) }
 {
     let step = told(place.system, place.mode, k, stage.read());
+    // both arms move the stage, which two closures of `map` and `map_err` could not
     match stage.step(step) {
         Ok(()) => Ok(stage),
         Err(overflow) => Err(Halted {
@@ -53,17 +55,21 @@ impl<S: Stage, C: Coordinate + Copy> Loaded<S, C> {
             system,
             mode,
         } = self;
-        let mut steps: u32 = 0;
-        while let Some(k) = system.at(steps as usize) {
+        let rows = C::rows();
+        for (i, row) in rows.iter().enumerate() {
+            // fits, as the number of rows below does: an order has at most 64 iterations
+            let steps = i as u32;
             let place = Place {
                 system: system.system(),
                 mode,
                 steps,
                 step: steps + 1,
             };
-            stage = advance(stage, place, k)?;
-            steps += 1;
+            stage = advance(stage, place, Iteration::from(*row))?;
         }
-        Ok(Finished { stage, steps })
+        Ok(Finished {
+            stage,
+            steps: rows.len() as u32,
+        })
     }
 }

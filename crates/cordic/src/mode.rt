@@ -1,13 +1,43 @@
 // The two modes of the unit: rotation drives z to zero, vectoring y.
-ghost use Rattle.std.specs.Prelude.{◌≡◌};
+ghost use Rattle.std.specs.Prelude.{◌≡◌, Some};
+ghost use Rattle.std.specs.Result.{result_ok};
+ghost use Rattle.stage.specs.Names.{named};
 ghost use Rattle.cordic.specs.Mode.{sign as sign_of, directed};
+ghost use Rattle.cordic.specs.Names.{name_of_mode, mode_names};
 
-use stage::{Direction, Triple};
+use stage::{Direction, Triple, UnknownName};
+use std::fmt;
+use std::str::FromStr;
 
 #[derive(Clone, Copy, PartialEq, Eq, Debug)]
 pub enum Mode {
     Rotation,
     Vectoring,
+}
+
+impl FromStr for Mode {
+    type Err = UnknownName;
+
+    ghost from_str_gives = { λ word r. result_ok r ≡ named mode_names word };
+
+    fn from_str(word: &str) -> Result<Mode, UnknownName> {
+        match word {
+            "rotation" => Ok(Mode::Rotation),
+            "vectoring" => Ok(Mode::Vectoring),
+            _ => Err(UnknownName),
+        }
+    }
+}
+
+impl fmt::Display for Mode {
+    ghost output = { λ mode. Some (name_of_mode mode) };
+
+    fn fmt<W: fmt::Write>(&self, f: &mut fmt::Formatter<W>) -> fmt::Result {
+        f.write_str(match self {
+            Mode::Rotation => "rotation",
+            Mode::Vectoring => "vectoring",
+        })
+    }
 }
 
 // The sign of a word; that of 0 is +1.
@@ -28,11 +58,13 @@ impl Mode {
     {
         match self {
             Mode::Rotation => sign(t.z),
-            Mode::Vectoring => match (sign(t.x), sign(t.y)) {
-                (Direction::Plus, Direction::Plus) => Direction::Minus,
-                (Direction::Minus, Direction::Minus) => Direction::Minus,
-                _ => Direction::Plus,
-            },
+            Mode::Vectoring => {
+                if sign(t.x) == sign(t.y) {
+                    Direction::Minus
+                } else {
+                    Direction::Plus
+                }
+            }
         }
     }
 }

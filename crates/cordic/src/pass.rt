@@ -16,6 +16,7 @@ use super::states::{Answer, Idle, Refused};
 use stage::{Stage, Triple};
 
 impl<S: Stage> Idle<S> {
+    // Apart from `pass`, so that each of its promises is shown of one result, and not at each of three returns.
     fn traverse<C: Coordinate + Copy>(
         self,
         system: C,

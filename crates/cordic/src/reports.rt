@@ -5,6 +5,7 @@ ghost use Rattle.cordic.specs.Faults.{reported};
 use super::faults::{Cause, Report, UnitFault};
 
 impl UnitFault {
+    // (A method and no `From`: its name says what is made.)
     pub fn report(self) -> Report
         ensures answer { result ≡ reported self }
     {

@@ -23,7 +23,7 @@ pub struct Answer<S, V> {
     pub steps: u32,
 }
 
-// A fault, the steps accepted before it, and the unit, idle again.
+// A fault, the steps accepted before it, and the unit, idle again. (The `Err` beside that `Ok`: one type for both would lose the names.)
 pub struct Refused<S, F> {
     pub unit: Idle<S>,
     pub fault: F,

@@ -1,18 +1,17 @@
 -- The checks before the arithmetic, as the code makes them.
-use Rattle.std.proofs.Common.{◌≡◌, ℕ, ◌<◌, ◌≤◌, List, [], ◌∷◌, length, ℤ, Some, Ok, Err, Option, sym, ap, ◌∙◌, arith}
+use Rattle.std.proofs.Common.{◌≡◌, ℕ, ◌<◌, ◌≤◌, List, [], ◌∷◌, length, ℤ, Some, Ok, Err, Option, Result, sym, ap, ◌∙◌, arith}
 use Rattle.std.proofs.lemmas.List.{length-map}
 use Rattle.std.specs.List.{AllByRecursion}
 use Rattle.std.proofs.lemmas.Bool.{le-ltb, eq-eqb}
 use Rattle.cordic.specs.Outcome.{stopped}
-use Rattle.network.specs.Admitted.{Admitted}
-use Rattle.network.specs.Bank.{words_of}
+use Rattle.network.specs.Admitted.{Admits}
+use Rattle.network.specs.Gathered.{gathered}
 use Rattle.network.specs.Network.{Sized, Describes}
 use Rattle.network.specs.Plan.{LayerOf, plan_of}
 use Rattle.network.specs.Run.{Feed, layers, words, entrance, exits, sampled, checked, recurrence}
 use Rattle.network.specs.Walk.{layers_of}
-use Rattle.network.specs.declared.bank.Bank.{Bank}
 use Rattle.network.specs.declared.faults.NetworkFault.{NetworkFault}
-use Rattle.network.specs.declared.faults.NetworkFault.TheVariants.{NoSample, SampleCount, Places}
+use Rattle.network.specs.declared.faults.NetworkFault.TheVariants.{SampleCount, Places}
 use Rattle.network.proofs.Checks.{ranked_stops}
 use Rattle.network.proofs.Sampling.{words_are}
 
@@ -44,15 +43,14 @@ module _ (f : Feed) (bytes : List ℕ) (ss : List (Option ℤ)) (places : ℕ) (
           let b = eq-eqb (length f.samples) (entrance (layers_of bytes)) (ap length q ∙ n) in
           ap (checked f) here ∙ rw (a, b) (ap (λ ws. sampled f (layers_of bytes) (words 0 ws)) q)
 
-      pub no_sample : {i : ℕ} → Err i ≡ words 0 ss → recurrence f ≡ stopped (NoSample i) 0 f.state
-      no_sample w = gathers ∙ ap (sampled f (layers_of bytes)) (sym w)
-
-      pub all_pass : Describes (layers_of bytes) bytes → (bank : Bank) → Ok (words_of bank) ≡ words 0 ss → Admitted f bank
-      all_pass d bank w =
-          let wide : length (words_of bank) ≡ entrance (layers_of bytes) = sym (length-map (words_of bank) (λ x. Some x)) ∙ ap length (words_are 0 ss (words_of bank) (sym w)) ∙ n in
+      -- what the gathering of the samples gives back
+      pub gathers_all : Describes (layers_of bytes) bytes → (r : Result (List ℤ) ℕ) → words 0 ss ≡ r → Admits f (gathered r)
+      gathers_all d (Err i) w = gathers ∙ ap (sampled f (layers_of bytes)) w
+      gathers_all d (Ok xs) w =
+          let wide : length xs ≡ entrance (layers_of bytes) = sym (length-map xs (λ x. Some x)) ∙ ap length (words_are 0 ss xs w) ∙ n in
           record {
             plan = rw p d;
             wide = rw p wide;
             room = rw (p, r) h;
-            goes = gathers ∙ ap (sampled f (layers_of bytes)) (sym w) ∙ ap (λ bs. layers f.rule 0 (layers_of bs) (words_of bank) f.state) (sym p);
+            goes = gathers ∙ ap (sampled f (layers_of bytes)) w ∙ ap (λ bs. layers f.rule 0 (layers_of bs) xs f.state) (sym p);
           }

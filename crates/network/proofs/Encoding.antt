@@ -1,5 +1,5 @@
 -- Records and their bytes, and the law of plans.
-use Rattle.std.proofs.Common.{◌≡◌, ℕ, ◌+◌, ◌*◌, ◌/◌, ◌%◌, ◌^◌, ◌<◌, ◌≤◌, Bool, true, false, cond, List, [], ◌∷◌, ◌++◌, length, get_or, Ok, Err, Result, sym, refl, ap, ◌∙◌, subst, arith, w8, w32, Fits, SFits, to_z, of_z}
+use Rattle.std.proofs.Common.{◌≡◌, ℕ, ◌+◌, ◌*◌, ◌/◌, ◌%◌, ◌^◌, ◌<◌, ◌≤◌, Bool, true, false, cond, List, [], ◌∷◌, ◌++◌, length, get_or, None, Ok, Err, Result, sym, refl, ap, ◌∙◌, subst, arith, w8, w32, Fits, SFits, to_z, of_z}
 use Rattle.std.proofs.ByRecursion.{All-from_get_or}
 use Rattle.std.specs.List.{flat_map, AllByRecursion}
 use Rattle.std.proofs.lemmas.Bool.Decides.{nat_tests}
@@ -86,29 +86,29 @@ bytes_length (r ∷ rs) = omega (arith, bytes_length rs)
 
 pub described_inv : (x : Result Tail ℕ) (ls : List LayerOf) → described x ≡ Ok ls → (t : Tail) × (x ≡ Ok t) × (t.layers ≡ ls)
 described_inv (Ok t) ls e = (t, refl, cc)
-described_inv (Err p) ls e = absurd (let z : ◌≡◌ {A = ℕ} 0 1 = cc in omega arith)
+described_inv (Err p) ls e = absurd (cc)
 
 pub plan_inv : (b : Bool) (x : Result (List LayerOf) NetworkFault) (ls : List LayerOf) → cond b (Err PlanLength) x ≡ Ok ls → (b ≡ false) × (x ≡ Ok ls)
-plan_inv true x ls e = absurd (let z : ◌≡◌ {A = ℕ} 0 1 = cc in omega arith)
+plan_inv true x ls e = absurd (cc)
 plan_inv false x ls e = (refl, e)
 
 -- a plan that is accepted describes its layers
 pub plan_describes : (bs : List ℕ) (ls : List LayerOf) → AllByRecursion (λ b. b < 256) bs → plan_of bs ≡ Ok ls → Describes ls bs
 unfolding plan_of
 plan_describes bs ls a e =
-    let p = plan_inv (has_bad_length (length bs)) (described (parse (Layer 0 4) 0 (records bs))) ls e in
-    let q = described_inv (parse (Layer 0 4) 0 (records bs)) ls p.1 in
-    let d = describes (records bs) (Layer 0 4) 0 q.0 tt q.1 in
+    let p = plan_inv (has_bad_length (length bs)) (described (parse (Layer None 4) 0 (records bs))) ls e in
+    let q = described_inv (parse (Layer None 4) 0 (records bs)) ls p.1 in
+    let d = describes (records bs) (Layer None 4) 0 q.0 tt q.1 in
     let r : records bs ≡ layer_records ls = d.0 ∙ ap layer_records q.2 in
     let b = p.0 in
     record {
       encoded = sym (bytes_back bs (grind (arith, nat_tests)) a) ∙ ap (flat_map record_bytes) r;
-      formed = (chain_shaped ls (subst (λ l. Chain 0 4 l) q.2 d.1.2), words_from ls (subst (λ rs. AllByRecursion (λ r. SFits w32 r.value) rs) r (values_fit bs a)));
+      formed = (chain_shaped ls (subst (λ l. Chain None 4 l) q.2 d.1.2), words_from ls (subst (λ rs. AllByRecursion (λ r. SFits w32 r.value) rs) r (values_fit bs a)));
       short = grind (arith, nat_tests);
     }
 
-some_records : (ls : List LayerOf) → Chain 0 4 ls → 0 < length (layer_records ls)
-some_records [] c = absurd (omega (arith, c))
+some_records : (ls : List LayerOf) → Chain None 4 ls → 0 < length (layer_records ls)
+some_records [] c = absurd (cc)
 some_records (l ∷ ls) c = omega arith
 
 not_bad : (n m : ℕ) → n ≡ 8 * m → 0 < m → n ≤ 65528 → has_bad_length n ≡ false
@@ -122,7 +122,7 @@ pub described_plan : (bs : List ℕ) (ls : List LayerOf) → Describes ls bs →
 unfolding plan_of
 described_plan bs ls d =
     let c = shaped_chain ls d.formed.0 in
-    let p = accepted (records bs) (Layer 0 4) 0 (record { weights = []; neurons = []; layers = ls }) tt (describes_records bs ls d) (refl, refl, c) in
+    let p = accepted (records bs) (Layer None 4) 0 (record { weights = []; neurons = []; layers = ls }) tt (describes_records bs ls d) (refl, refl, c) in
     let n = ap length d.encoded ∙ bytes_length (layer_records ls) in
     let b : has_bad_length (length bs) ≡ false = not_bad (length bs) (length (layer_records ls)) n (some_records ls c) d.short in
     rw (b, p)

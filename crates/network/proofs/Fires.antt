@@ -1,8 +1,8 @@
 -- A neuron in code: the net, then the activation.
-use Rattle.std.proofs.Common.{◌≡◌, ℕ, ◌*◌, ◌≤◌, List, length, ℤ, Some, None, Option, Result, refl, add-zero, arith}
+use Rattle.std.proofs.Common.{◌≡◌, ℕ, ◌≤◌, List, ℤ, Some, None, Option, Result, refl, add-zero, arith}
 use Rattle.stage.specs.Stage.{Rule}
 use Rattle.stage.specs.declared.stage.Stage.{Ghosts}
-use Rattle.cordic.specs.Outcome.{State, Out, went, stopped, counted, onward, mapped, inside, steps_in}
+use Rattle.cordic.specs.Outcome.{State, Out, went, stopped, counted, onward, mapped, inside}
 use Rattle.cordic.specs.Seen.{seen}
 use Rattle.cordic.specs.declared.faults.UnitFault.{UnitFault}
 use Rattle.cordic.specs.declared.states.Answer.{Answer}
@@ -14,7 +14,7 @@ use Rattle.network.specs.Run.{output}
 use Rattle.network.specs.declared.activation.Activation.{Activation}
 use Rattle.network.specs.declared.activation.Activation.TheVariants.{Identity, Tanh}
 use Rattle.network.specs.declared.faults.NeuronFault.{NeuronFault}
-use Rattle.network.proofs.Short.{made_steps, mapped_steps, inside_steps, products_short, tanh_short}
+use Rattle.network.proofs.Short.{made_steps, mapped_steps, tanh_short}
 
 abbrev input_of : ℕ × UnitFault → ℕ → Option ℕ × UnitFault
 input_of p n = (Some p.0, p.1)
@@ -60,12 +60,6 @@ module _ (rule : Rule) (xs : List ℤ) (n : Neuron) (s : State) where
       → inside (in_neuron None) (counted k (mapped (λ (q : Quotient). q.t) (tanh rule v u))) ≡ mapped output (fired rule Tanh xs n s)
   unfolding fired
   fire_tanh e = tanh_by rule n.bias (products rule 0 xs n.weights n.bias s) _ _ _ e
-
-pub net_short : (rule : Rule) (xs ws : List ℤ) (b v : ℤ) (n : ℕ) (s u : State) → length xs ≤ 64 → went v n u ≡ inside in_product (netted rule 0 xs ws b s) → n ≤ 1792
-net_short rule xs ws b v n s u l e =
-    let h : steps_in (inside in_product (netted rule 0 xs ws b s)) ≤ 28 * length xs = rw (inside_steps, mapped_steps) (products_short rule 0 xs ws b s) in
-    let k : n ≤ 28 * length xs = rw (← e) at h in
-    omega arith
 
 pub tanh_made : {X : Type 0} (S : Ghosts X) (r : Result (Answer X ℤ) (Refused X UnitFault)) (rule : Rule) (v : ℤ) (s : State)
     → seen S r ≡ mapped (λ (q : Quotient). q.t) (tanh rule v s) → steps_made r ≤ 58

@@ -4,26 +4,26 @@ use Rattle.std.proofs.lemmas.List.{length-map, length-append, length-drop, drop-
 use Rattle.std.specs.List.{AllByRecursion}
 use Rattle.stage.specs.Stage.{Rule}
 use Rattle.stage.specs.declared.stage.Stage.{Ghosts}
+use Rattle.arrayvec.specs.ArrayVec.{ArrayVec}
 use Rattle.cordic.specs.Outcome.{State, Out, went, stopped, counted, onward, mapped, inside, steps_in}
 use Rattle.cordic.specs.Seen.{seen, state_of}
 use Rattle.cordic.specs.declared.states.Answer.{Answer}
 use Rattle.cordic.specs.declared.states.Refused.{Refused}
 use Rattle.cordic.proofs.Outs.{loop_on, loop_halt}
-use Rattle.network.specs.Bank.{words_of}
 use Rattle.network.specs.Neuron.{Neuron, Working, fired}
 use Rattle.network.specs.Network.{weight_records, neuron_records, layer_records, Sized, Follows, Chained}
 use Rattle.network.specs.Placing.{steps_made, later}
 use Rattle.network.specs.Plain.{layer_of, outs, laid, lasts, flown}
-use Rattle.network.specs.Plan.{LayerOf, records, activation_at}
+use Rattle.network.specs.Codes.{known_activation}
+use Rattle.network.specs.Plan.{LayerOf, records}
 use Rattle.network.specs.Reading.{Ahead}
 use Rattle.network.specs.Run.{output, located, layer, layers, entrance}
 use Rattle.network.specs.declared.activation.Activation.{Activation}
-use Rattle.network.specs.declared.bank.Bank.{Bank}
 use Rattle.network.specs.declared.faults.NetworkFault.{NetworkFault}
 use Rattle.network.specs.declared.record.Record.{Record}
 use Rattle.network.proofs.Bytes.{records_cons}
 use Rattle.network.proofs.Layering.{layer_length}
-use Rattle.network.proofs.ReadBack.{layers_more}
+use Rattle.network.proofs.ReadBack.{length_weights, layers_more}
 use Rattle.network.proofs.Short.{made_steps, mapped_steps, layer_short}
 
 -- ---- the recurrence
@@ -74,14 +74,17 @@ laid_width rule l a xs ns s ys n u h = width_by rule l a xs ns s (layer rule l (
 
 -- ---- the code
 
-seen_later : {X F : Type 0} (S : Ghosts X) (n : ℕ) (r : Result (Answer X Bank) (Refused X F)) → mapped words_of (seen S (later n r)) ≡ counted n (mapped words_of (seen S r))
+abbrev items : ArrayVec ℤ → List ℤ
+items v = v.items
+
+seen_later : {X F : Type 0} (S : Ghosts X) (n : ℕ) (r : Result (Answer X (ArrayVec ℤ)) (Refused X F)) → mapped items (seen S (later n r)) ≡ counted n (mapped items (seen S r))
 seen_later S n (Ok a) = refl
 seen_later S n (Err e) = refl
 
-pub layer_made : {X : Type 0} (S : Ghosts X) (r : Result (Answer X Bank) (Refused X NetworkFault)) (rule : Rule) (l : ℕ) (a : Activation) (xs : List ℤ) (ns : List Neuron) (s : State)
-    → length xs ≤ 64 → length ns ≤ 64 → mapped words_of (seen S r) ≡ laid rule l a xs [] 0 ns s → steps_made r ≤ 118400
+pub layer_made : {X : Type 0} (S : Ghosts X) (r : Result (Answer X (ArrayVec ℤ)) (Refused X NetworkFault)) (rule : Rule) (l : ℕ) (a : Activation) (xs : List ℤ) (ns : List Neuron) (s : State)
+    → length xs ≤ 64 → length ns ≤ 64 → mapped items (seen S r) ≡ laid rule l a xs [] 0 ns s → steps_made r ≤ 118400
 layer_made S r rule l a xs ns s h k e =
-    let m : steps_made r ≡ steps_in (laid rule l a xs [] 0 ns s) = made_steps S r ∙ sym (mapped_steps words_of (seen S r)) ∙ ap steps_in e in
+    let m : steps_made r ≡ steps_in (laid rule l a xs [] 0 ns s) = made_steps S r ∙ sym (mapped_steps items (seen S r)) ∙ ap steps_in e in
     let b = layer_short rule l (layer_of a) xs 0 ns s h in
     let c : steps_in (laid rule l a xs [] 0 ns s) ≤ 1850 * length ns = rw (mapped_steps (outs []) (layer rule l (layer_of a) xs 0 ns s)) b in
     omega arith
@@ -92,24 +95,24 @@ later_made n (Err f) a e = let z : ◌≡◌ {A = ℕ} 0 1 = cc in absurd (omega
 
 -- n steps made, xs the inputs of the layer h, s the state now
 module _ {X : Type 0} (S : Ghosts X) (rule : Rule) (l n : ℕ) (hs ls : List LayerOf) (h : LayerOf) (xs : List ℤ) (s : State) {whole : Out (List ℤ) NetworkFault}
-    (inv : counted n (flown rule l hs xs s) ≡ whole) (are : hs ≡ h ∷ ls) (r : Result (Answer X Bank) (Refused X NetworkFault))
-    (e : mapped words_of (seen S r) ≡ laid rule l h.activation xs [] 0 h.neurons s) where
+    (inv : counted n (flown rule l hs xs s) ≡ whole) (are : hs ≡ h ∷ ls) (r : Result (Answer X (ArrayVec ℤ)) (Refused X NetworkFault))
+    (e : mapped items (seen S r) ≡ laid rule l h.activation xs [] 0 h.neurons s) where
   here : flown rule l hs xs s ≡ onward (flown rule (l + 1) ls) (laid rule l h.activation xs [] 0 h.neurons s)
   here = rw are (flown_more rule l h ls xs s)
 
-  pub flow_on : (a : Answer X Bank) → Ok a ≡ later n r → counted a.steps (flown rule (l + 1) ls (words_of a.value) (state_of S a.unit.stage)) ≡ whole
-  flow_on a g = loop_on n _ inv (flown rule (l + 1) ls) _ here (ap (λ q. mapped words_of (seen S q)) g ∙ seen_later S n r ∙ ap (counted n) e)
+  pub flow_on : (a : Answer X (ArrayVec ℤ)) → Ok a ≡ later n r → counted a.steps (flown rule (l + 1) ls (items a.value) (state_of S a.unit.stage)) ≡ whole
+  flow_on a g = loop_on n _ inv (flown rule (l + 1) ls) _ here (ap (λ q. mapped items (seen S q)) g ∙ seen_later S n r ∙ ap (counted n) e)
 
   pub flow_halt : (f : Refused X NetworkFault) → Err f ≡ later n r → seen {V = List ℤ} S (Err f) ≡ whole
-  flow_halt f g = loop_halt n _ inv (flown rule (l + 1) ls) _ here (ap (λ q. mapped words_of (seen S q)) g ∙ seen_later S n r ∙ ap (counted n) e)
+  flow_halt f g = loop_halt n _ inv (flown rule (l + 1) ls) _ here (ap (λ q. mapped items (seen S q)) g ∙ seen_later S n r ∙ ap (counted n) e)
 
-  pub flow_width : (a : Answer X Bank) → Ok a ≡ later n r → length (words_of a.value) ≡ length h.neurons
+  pub flow_width : (a : Answer X (ArrayVec ℤ)) → Ok a ≡ later n r → length (items a.value) ≡ length h.neurons
   flow_width a g = by r a g e
     where
-      by : (r : Result (Answer X Bank) (Refused X NetworkFault)) (a : Answer X Bank) → Ok a ≡ later n r → mapped words_of (seen S r) ≡ laid rule l h.activation xs [] 0 h.neurons s → length (words_of a.value) ≡ length h.neurons
+      by : (r : Result (Answer X (ArrayVec ℤ)) (Refused X NetworkFault)) (a : Answer X (ArrayVec ℤ)) → Ok a ≡ later n r → mapped items (seen S r) ≡ laid rule l h.activation xs [] 0 h.neurons s → length (items a.value) ≡ length h.neurons
       by (Ok b) a g e =
           let v : a ≡ record { unit = b.unit; value = b.value; steps = n + b.steps } = cc in
-          rw v (laid_width rule l h.activation xs h.neurons s (words_of b.value) b.steps (state_of S b.unit.stage) e)
+          rw v (laid_width rule l h.activation xs h.neurons s (items b.value) b.steps (state_of S b.unit.stage) e)
       by (Err f) a g e = let z : ◌≡◌ {A = ℕ} 0 1 = cc in absurd (omega arith)
 
 pub flow_done : (rule : Rule) (l n : ℕ) (hs : List LayerOf) (xs : List ℤ) (s : State) {whole : Out (List ℤ) NetworkFault} → counted n (flown rule l hs xs s) ≡ whole → hs ≡ [] → went xs n s ≡ whole
@@ -149,10 +152,6 @@ length_neurons j i (n ∷ ns) a =
     let w = length_weights 0 n.weights in
     let e : length n.weights ≡ i = a.0 in
     omega arith
-  where
-    length_weights : (i : ℕ) (ws : List ℤ) → length (weight_records i ws) ≡ length ws
-    length_weights i [] = refl
-    length_weights i (w ∷ ws) = ap suc (length_weights (i + 1) ws)
 
 ahead_length : (rs : List Record) (neurons inputs : ℕ) (ns : List Neuron) (ls : List LayerOf) → Ahead rs 0 neurons inputs ns ls → length (neuron_records 0 ns) ≡ neurons * (inputs + 1)
 ahead_length rs neurons inputs ns ls a = length_neurons 0 inputs ns a.full ∙ ap (λ n. n * (inputs + 1)) (sym (zero-add (length ns)) ∙ a.count)
@@ -173,7 +172,7 @@ pub record Faces (head : Record) (tail : List Record) (ls : List LayerOf) (width
   pub within : LayerOf
   pub others : List LayerOf
   pub are : ls ≡ within ∷ others
-  pub activation : activation_at head.flag ≡ within.activation
+  pub activation : known_activation head.flag ≡ Ok within.activation
   pub ahead : Ahead tail 0 head.index width within.neurons others
   pub narrow : width ≤ 64
   pub few : head.index ≤ 64
@@ -195,7 +194,7 @@ faces rs head tail (l ∷ ls) width p s f e =
       within = l;
       others = ls;
       are = refl;
-      activation = o.activation_is ∙ ap (λ (h : LayerOf). h.activation) same;
+      activation = o.activation_is ∙ ap (λ (h : LayerOf). Ok h.activation) same;
       ahead = a;
       narrow = a.few;
       few = omega arith;

@@ -1,9 +1,8 @@
 -- A plan is accepted exactly when it is the encoding of a well-formed network: first for records.
-use Rattle.std.proofs.Common.{◌≡◌, ℕ, zero, suc, ◌+◌, ◌-◌, ◌<◌, ◌≤◌, Bool, true, false, cond, ◌&&◌, ◌||◌, eqb, ltb, ◌⊎◌, List, [], ◌∷◌, ◌++◌, length, ℤ, pos, negsuc, nat_abs, Some, None, Ok, Err, Option, Result, sym, refl, ap, ◌∙◌, subst, inl, inr, append_assoc, zero-add, arith}
-use mathlib.Core.Logic.{⊎_map}
+use Rattle.std.proofs.Common.{◌≡◌, ℕ, zero, suc, ◌+◌, ◌-◌, ◌<◌, ◌≤◌, Bool, true, false, cond, ◌&&◌, ltb, ◌⊎◌, List, [], ◌∷◌, ◌++◌, length, ℤ, pos, negsuc, nat_abs, is_some, IsSome, IfSome, Some, None, Ok, Err, Option, Result, sym, refl, ap, ◌∙◌, subst, inl, inr, append_assoc, zero-add, arith}
 use lib.Signed.{le_z}
 use Rattle.std.specs.List.{AllByRecursion}
-use Rattle.std.proofs.lemmas.Bool.{cond-true, and_from, and_parts, or_cases, eqb-true, lt-ltb, ltb-true, ltb-false}
+use Rattle.std.proofs.lemmas.Bool.{cond-true, and_from, and_parts, eqb-true, eq-eqb, lt-ltb, ltb-true, ltb-false}
 use Rattle.std.proofs.lemmas.Bool.Decides.{nat_tests}
 use Rattle.std.proofs.lemmas.Int.{ints}
 use Rattle.network.specs.declared.record.Record.{Record}
@@ -13,15 +12,16 @@ use Rattle.network.specs.declared.next.Next.{Next}
 use Rattle.network.specs.declared.next.Shape.{Shape}
 use Rattle.network.specs.declared.next.Next.TheVariants.{Layer, Bias, Weight}
 use Rattle.network.specs.Neuron.{Neuron}
-use Rattle.network.specs.Plan.{accept, ends, row, layer_row, opened, filled, LayerOf, Tail, onto, carry, follow, ended, parse, activation_at}
+use Rattle.network.specs.Codes.{known_activation}
+use Rattle.network.specs.Plan.{accept, last_width, row, layer_row, joins, opened, filled, LayerOf, Tail, onto, carry, follow, ended, parse, activation_at}
 use Rattle.network.specs.Network.{flag_of, weight_records, neuron_records, layer_records, Sized}
 use Rattle.network.specs.Walk.{Sound}
 use Rattle.network.proofs.Walking.{sound_more}
 
--- at most `left` layers after one of `before` neurons, or first of all where `before` is 0
-abbrev pub Chain : ℕ → ℕ → List LayerOf → Type 0
-Chain before left [] = 0 < before
-Chain before left (l ∷ ls) = (0 < left) × ((before ≡ 0) ⊎ (l.inputs ≡ before)) × Sized l × Chain (length l.neurons) (left - 1) ls
+-- at most `left` layers after one of `before` neurons, or first of all where there is none
+abbrev pub Chain : Option ℕ → ℕ → List LayerOf → Type 0
+Chain before left [] = IsSome before
+Chain before left (l ∷ ls) = (0 < left) × IfSome before (λ n. l.inputs ≡ n) × Sized l × Chain (Some (length l.neurons)) (left - 1) ls
 
 -- the records of what a plan still describes
 abbrev pub records_for : Next → Tail → List Record
@@ -32,12 +32,12 @@ records_for (Weight shape neuron input) t = weight_records input t.weights ++ (n
 -- and that it fits what is left to describe
 abbrev pub Fitting : Next → Tail → Type 0
 Fitting (Layer before left) t = (t.weights ≡ []) × (t.neurons ≡ []) × Chain before left t.layers
-Fitting (Bias shape neuron) t = (t.weights ≡ []) × (neuron + length t.neurons ≡ shape.neurons) × AllByRecursion (λ n. length n.weights ≡ shape.inputs) t.neurons × Chain shape.neurons shape.left t.layers
-Fitting (Weight shape neuron input) t = (input + length t.weights ≡ shape.inputs) × (neuron + 1 + length t.neurons ≡ shape.neurons) × AllByRecursion (λ n. length n.weights ≡ shape.inputs) t.neurons × Chain shape.neurons shape.left t.layers
+Fitting (Bias shape neuron) t = (t.weights ≡ []) × (neuron + length t.neurons ≡ shape.neurons) × AllByRecursion (λ n. length n.weights ≡ shape.inputs) t.neurons × Chain (Some shape.neurons) shape.left t.layers
+Fitting (Weight shape neuron input) t = (input + length t.weights ≡ shape.inputs) × (neuron + 1 + length t.neurons ≡ shape.neurons) × AllByRecursion (λ n. length n.weights ≡ shape.inputs) t.neurons × Chain (Some shape.neurons) shape.left t.layers
 
 pub some_cond : {X : Type 0} (b : Bool) (x y : X) → cond b (Some x) None ≡ Some y → (b ≡ true) × (x ≡ y)
 some_cond true x y e = (refl, cc)
-some_cond false x y e = absurd (let z : ◌≡◌ {A = ℕ} 0 1 = cc in omega arith)
+some_cond false x y e = absurd (cc)
 
 record_is : (r : Record) (k f i : ℕ) (v : ℤ) → r.kind ≡ k → r.flag ≡ f → r.index ≡ i → r.value ≡ v → r ≡ record { kind = k; flag = f; index = i; value = v }
 record_is r k f i v a b c d = rw (← a, ← b, ← c, ← d)
@@ -52,7 +52,7 @@ flag_is (suc (suc n)) h = absurd (omega arith)
 
 value_is : (v : ℤ) → le_z (pos 1) v ≡ true → v ≡ pos (nat_abs v)
 value_is (pos n) e = refl
-value_is (negsuc n) e = absurd (let z : ◌≡◌ {A = ℕ} 0 1 = cc in omega arith)
+value_is (negsuc n) e = absurd (cc)
 
 layer_is : (r : Record) → layer_row r ≡ true → r ≡ record { kind = 1; flag = flag_of (activation_at r.flag); index = r.index; value = pos (nat_abs r.value) }
 layer_is r e = record_is r 1 _ r.index _ (grind (arith, nat_tests)) (flag_is r.flag (grind (arith, nat_tests))) refl (value_is r.value (grind (arith, nat_tests)))
@@ -67,11 +67,19 @@ cons_same p q = cc
 abbrev pub Accounts : Next → List Record → Tail → Type 0
 Accounts n rs t = (rs ≡ records_for n t) × Fitting n t
 
-describes_layer : (before left : ℕ) (r : Record) (rs : List Record) (t : Tail) → layer_row r ≡ true → 0 < left → (before ≡ 0) ⊎ (nat_abs r.value ≡ before) → Accounts (Bias (record { neurons = r.index; inputs = nat_abs r.value; left = left - 1 }) 0) rs t → Accounts (Layer before left) (r ∷ rs) (onto (Layer before left) r t)
+joined : (before : Option ℕ) (inputs : ℕ) → joins before inputs ≡ true → IfSome before (λ n. inputs ≡ n)
+joined None inputs e = tt
+joined (Some n) inputs e = eqb-true inputs n e
+
+joins_on : (before : Option ℕ) (inputs : ℕ) → IfSome before (λ n. inputs ≡ n) → joins before inputs ≡ true
+joins_on None inputs h = refl
+joins_on (Some n) inputs h = eq-eqb inputs n h
+
+describes_layer : (before : Option ℕ) (left : ℕ) (r : Record) (rs : List Record) (t : Tail) → layer_row r ≡ true → 0 < left → IfSome before (λ n. nat_abs r.value ≡ n) → Accounts (Bias (record { neurons = r.index; inputs = nat_abs r.value; left = left - 1 }) 0) rs t → Accounts (Layer before left) (r ∷ rs) (onto (Layer before left) r t)
 describes_layer before left r rs t e l c (p, f) =
     let m : r.index ≡ length t.neurons = omega (arith, f.1) in (
       cons_same (layer_is r e ∙ ap (λ k. record { kind = 1; flag = flag_of (activation_at r.flag); index = k; value = pos (nat_abs r.value) }) m) p,
-      (refl, refl, (l, c, record { some = grind (arith, nat_tests); few = grind (arith, nat_tests); fed = grind (arith, nat_tests, ints); narrow = grind (arith, nat_tests, ints); full = f.2 }, subst (λ k. Chain k (left - 1) t.layers) m f.3)),
+      (refl, refl, (l, c, record { some = grind (arith, nat_tests); few = grind (arith, nat_tests); fed = grind (arith, nat_tests, ints); narrow = grind (arith, nat_tests, ints); full = f.2 }, subst (λ k. Chain (Some k) (left - 1) t.layers) m f.3)),
     )
 
 describes_bias : (s : Shape) (j : ℕ) (r : Record) (rs : List Record) (t : Tail) → row 2 j r ≡ true → Accounts (Weight s j 0) rs t → Accounts (Bias s j) (r ∷ rs) (onto (Bias s j) r t)
@@ -87,11 +95,11 @@ describes_last : (s : Shape) (j i : ℕ) (r : Record) (rs : List Record) (t : Ta
 describes_last s j i r rs t e h (p, f) =
     (cons_same (row_is 3 i r e) (rw f.0 p), (omega (arith, ap length f.0), f.1, f.2, f.3))
 
-describes_end : (s : Shape) (j i : ℕ) (r : Record) (rs : List Record) (t : Tail) → row 3 i r ≡ true → i + 1 ≡ s.inputs → j + 1 ≡ s.neurons → Accounts (Layer s.neurons s.left) rs t → Accounts (Weight s j i) (r ∷ rs) (onto (Weight s j i) r t)
+describes_end : (s : Shape) (j i : ℕ) (r : Record) (rs : List Record) (t : Tail) → row 3 i r ≡ true → i + 1 ≡ s.inputs → j + 1 ≡ s.neurons → Accounts (Layer (Some s.neurons) s.left) rs t → Accounts (Weight s j i) (r ∷ rs) (onto (Weight s j i) r t)
 describes_end s j i r rs t e h k (p, f) =
     (cons_same (row_is 3 i r e) (rw (f.0, f.1) p), (omega (arith, ap length f.0), omega (arith, ap length f.1), rw f.1 tt, f.2))
 
-describes_filled : (s : Shape) (j i : ℕ) (b c : Bool) (r : Record) (rs : List Record) (t : Tail) → i < s.inputs → j < s.neurons → ltb (i + 1) s.inputs ≡ b → ltb (j + 1) s.neurons ≡ c → row 3 i r ≡ true → Accounts (cond b (Weight s j (i + 1)) (cond c (Bias s (j + 1)) (Layer s.neurons s.left))) rs t → Accounts (Weight s j i) (r ∷ rs) (onto (Weight s j i) r t)
+describes_filled : (s : Shape) (j i : ℕ) (b c : Bool) (r : Record) (rs : List Record) (t : Tail) → i < s.inputs → j < s.neurons → ltb (i + 1) s.inputs ≡ b → ltb (j + 1) s.neurons ≡ c → row 3 i r ≡ true → Accounts (cond b (Weight s j (i + 1)) (cond c (Bias s (j + 1)) (Layer (Some s.neurons) s.left))) rs t → Accounts (Weight s j i) (r ∷ rs) (onto (Weight s j i) r t)
 describes_filled s j i true c r rs t h k p q e d = describes_weight s j i r rs t e d
 describes_filled s j i false true r rs t h k p q e d = describes_last s j i r rs t e (omega (arith, ltb-false (i + 1) s.inputs p)) d
 describes_filled s j i false false r rs t h k p q e d = describes_end s j i r rs t e (omega (arith, ltb-false (i + 1) s.inputs p)) (omega (arith, ltb-false (j + 1) s.neurons q)) d
@@ -101,8 +109,7 @@ describes_more (Layer before left) m r rs t s e d =
     let q = some_cond _ _ m e in
     let a = and_parts _ _ q.0 in
     let b = and_parts _ _ a.1 in
-    let c = or_cases _ _ b.1 in
-    describes_layer before left r rs t a.0 (ltb-true 0 left b.0) (⊎_map (eqb-true before 0) (eqb-true (nat_abs r.value) before) c) (subst (λ m. Accounts m rs t) (sym q.1) d)
+    describes_layer before left r rs t a.0 (ltb-true 0 left b.0) (joined before (nat_abs r.value) b.1) (subst (λ m. Accounts m rs t) (sym q.1) d)
 describes_more (Bias shape neuron) m r rs t s e d =
     let q = some_cond _ _ m e in describes_bias shape neuron r rs t q.0 (subst (λ m. Accounts m rs t) (sym q.1) d)
 describes_more (Weight shape neuron input) m r rs t s e d =
@@ -110,28 +117,28 @@ describes_more (Weight shape neuron input) m r rs t s e d =
 
 pub carry_ok : (f : Tail → Tail) (x : Result Tail ℕ) (t : Tail) → carry f x ≡ Ok t → (u : Tail) × (x ≡ Ok u) × (t ≡ f u)
 carry_ok f (Ok u) t e = (u, refl, cc)
-carry_ok f (Err p) t e = absurd (let z : ◌≡◌ {A = ℕ} 0 1 = cc in omega arith)
+carry_ok f (Err p) t e = absurd (cc)
 
 pub follow_ok : (o : Option Next) (at : ℕ) (k : Next → Result Tail ℕ) (t : Tail) → follow o at k ≡ Ok t → (m : Next) × (o ≡ Some m) × (k m ≡ Ok t)
 follow_ok (Some m) at k t e = (m, refl, e)
-follow_ok None at k t e = absurd (let z : ◌≡◌ {A = ℕ} 0 1 = cc in omega arith)
+follow_ok None at k t e = absurd (cc)
 
 abbrev pub nothing : Tail
 nothing = record { weights = []; neurons = []; layers = [] }
 
-pub ended_ok : (b : Bool) (at : ℕ) (t : Tail) → ended b at ≡ Ok t → (b ≡ true) × (t ≡ nothing)
-ended_ok true at t e = (refl, cc)
-ended_ok false at t e = absurd (let z : ◌≡◌ {A = ℕ} 0 1 = cc in omega arith)
+pub ended_ok : (o : Option ℕ) (at : ℕ) (t : Tail) → ended o at ≡ Ok t → (width : ℕ) × (o ≡ Some width) × (t ≡ nothing)
+ended_ok (Some width) at t e = (width, refl, cc)
+ended_ok None at t e = absurd (cc)
 
-describes_end_of : (n : Next) → ends n ≡ true → Accounts n [] nothing
-describes_end_of (Layer before left) e = (refl, (refl, refl, ltb-true 0 before e))
-describes_end_of (Bias shape neuron) e = absurd (let z : ◌≡◌ {A = ℕ} 0 1 = cc in omega arith)
-describes_end_of (Weight shape neuron input) e = absurd (let z : ◌≡◌ {A = ℕ} 0 1 = cc in omega arith)
+describes_end_of : (n : Next) (width : ℕ) → last_width n ≡ Some width → Accounts n [] nothing
+describes_end_of (Layer before left) width e = (refl, (refl, refl, ap is_some e))
+describes_end_of (Bias shape neuron) width e = absurd (cc)
+describes_end_of (Weight shape neuron input) width e = absurd (cc)
 
 -- what is accepted is described
 pub describes : (rs : List Record) (n : Next) (at : ℕ) (t : Tail) → Sound n → parse n at rs ≡ Ok t → Accounts n rs t
 unfolding parse
-describes [] n at t s e = let q = ended_ok (ends n) at t e in subst (λ t. Accounts n [] t) (sym q.1) (describes_end_of n q.0)
+describes [] n at t s e = let q = ended_ok (last_width n) at t e in subst (λ t. Accounts n [] t) (sym q.2) (describes_end_of n q.0 q.1)
 describes (r ∷ rs) n at t s e =
     let q = carry_ok (onto n r) _ t e in
     let p = follow_ok (accept n r) at (λ m. parse m (at + 1) rs) q.0 q.1 in
@@ -153,12 +160,17 @@ pub record Begun (n : Next) (t : Tail) : Type 0 where
 -- or that nothing is
 pub record Over (n : Next) (t : Tail) : Type 0 where
   pub none : records_for n t ≡ []
-  pub may : ends n ≡ true
+  pub width : ℕ
+  pub may : last_width n ≡ Some width
   pub empty : t ≡ nothing
 
 pub flag_back : (a : Activation) → activation_at (flag_of a) ≡ a
 flag_back Identity = refl
 flag_back Tanh = refl
+
+pub known_back : (a : Activation) → known_activation (flag_of a) ≡ Ok a
+known_back Identity = refl
+known_back Tanh = refl
 
 flag_low : (a : Activation) → flag_of a ≤ 1
 flag_low Identity = omega arith
@@ -167,16 +179,17 @@ flag_low Tanh = omega arith
 abbrev pub header : LayerOf → Record
 header l = record { kind = 1; flag = flag_of l.activation; index = length l.neurons; value = pos l.inputs }
 
-opens : (before left : ℕ) (l : LayerOf) → 0 < left → (before ≡ 0) ⊎ (l.inputs ≡ before) → Sized l → opened before left (header l) ≡ Some (Bias (record { neurons = length l.neurons; inputs = l.inputs; left = left - 1 }) 0)
+opens : (before : Option ℕ) (left : ℕ) (l : LayerOf) → 0 < left → IfSome before (λ n. l.inputs ≡ n) → Sized l → opened before left (header l) ≡ Some (Bias (record { neurons = length l.neurons; inputs = l.inputs; left = left - 1 }) 0)
 opens before left l h c z =
     let f = flag_low l.activation in
     let m = z.some in let n = z.few in let p = z.fed in let q = z.narrow in
     let t : layer_row (header l) ≡ true = grind (arith, nat_tests) in
-    let u : (ltb 0 left && (eqb before 0 || eqb l.inputs before)) ≡ true = grind (arith, nat_tests) in
+    let u : (ltb 0 left && joins before l.inputs) ≡ true = and_from _ _ (lt-ltb 0 left h) (joins_on before l.inputs c) in
     cond-true _ _ _ (and_from _ _ t u)
 
-begun_layer : (before left : ℕ) (ws : List ℤ) (ns : List Neuron) (ls : List LayerOf) → Fitting (Layer before left) (tail ws ns ls) → Over (Layer before left) (tail ws ns ls) ⊎ Begun (Layer before left) (tail ws ns ls)
-begun_layer before left ws ns [] f = inl (record { none = refl; may = lt-ltb 0 before f.2; empty = rw (f.0, f.1) })
+begun_layer : (before : Option ℕ) (left : ℕ) (ws : List ℤ) (ns : List Neuron) (ls : List LayerOf) → Fitting (Layer before left) (tail ws ns ls) → Over (Layer before left) (tail ws ns ls) ⊎ Begun (Layer before left) (tail ws ns ls)
+begun_layer (Some width) left ws ns [] f = inl (record { none = refl; width = width; may = refl; empty = rw (f.0, f.1) })
+begun_layer None left ws ns [] f = absurd (let e = f.2 in cc)
 begun_layer before left ws ns (l ∷ ls) f =
     inr (record {
       head = record { kind = 1; flag = flag_of l.activation; index = length l.neurons; value = pos l.inputs };
@@ -201,7 +214,7 @@ begun_bias s j ws (x ∷ ns) ls h f =
       whole = rw f.0;
     }
 
-filled_on : (s : Shape) (j i : ℕ) (b c : Bool) (ws : List ℤ) (ns : List Neuron) (ls : List LayerOf) → ltb (i + 1) s.inputs ≡ b → ltb (j + 1) s.neurons ≡ c → i + 1 + length ws ≡ s.inputs → j + 1 + length ns ≡ s.neurons → AllByRecursion (λ n. length n.weights ≡ s.inputs) ns → Chain s.neurons s.left ls → (weight_records (i + 1) ws ++ (neuron_records (j + 1) ns ++ layer_records ls) ≡ records_for (cond b (Weight s j (i + 1)) (cond c (Bias s (j + 1)) (Layer s.neurons s.left))) (tail ws ns ls)) × Fitting (cond b (Weight s j (i + 1)) (cond c (Bias s (j + 1)) (Layer s.neurons s.left))) (tail ws ns ls)
+filled_on : (s : Shape) (j i : ℕ) (b c : Bool) (ws : List ℤ) (ns : List Neuron) (ls : List LayerOf) → ltb (i + 1) s.inputs ≡ b → ltb (j + 1) s.neurons ≡ c → i + 1 + length ws ≡ s.inputs → j + 1 + length ns ≡ s.neurons → AllByRecursion (λ n. length n.weights ≡ s.inputs) ns → Chain (Some s.neurons) s.left ls → (weight_records (i + 1) ws ++ (neuron_records (j + 1) ns ++ layer_records ls) ≡ records_for (cond b (Weight s j (i + 1)) (cond c (Bias s (j + 1)) (Layer (Some s.neurons) s.left))) (tail ws ns ls)) × Fitting (cond b (Weight s j (i + 1)) (cond c (Bias s (j + 1)) (Layer (Some s.neurons) s.left))) (tail ws ns ls)
 filled_on s j i true c ws ns ls p q h k a d = (refl, (h, k, a, d))
 filled_on s j i false true [] ns ls p q h k a d = (refl, (refl, k, a, d))
 filled_on s j i false true (w ∷ ws) ns ls p q h k a d = absurd (omega (arith, ltb-false (i + 1) s.inputs p))
@@ -231,11 +244,11 @@ begun (Weight shape neuron input) t s f = inr (begun_weight shape neuron input t
 accepted_none : (n : Next) (at : ℕ) (t : Tail) → [] ≡ records_for n t → Over n t ⊎ Begun n t → parse n at [] ≡ Ok t
 unfolding parse
 accepted_none n at t p (inl o) = rw o.may (ap Ok (sym o.empty))
-accepted_none n at t p (inr b) = absurd (let a = b.parts in let z : ◌≡◌ {A = ℕ} 0 1 = cc in omega arith)
+accepted_none n at t p (inr b) = absurd (let a = b.parts in cc)
 
 accepted_more : (r : Record) (rs : List Record) (n : Next) (at : ℕ) (t : Tail) → Sound n → r ∷ rs ≡ records_for n t → ((m : Next) (k : ℕ) (u : Tail) → Sound m → rs ≡ records_for m u → Fitting m u → parse m k rs ≡ Ok u) → Over n t ⊎ Begun n t → parse n at (r ∷ rs) ≡ Ok t
 unfolding parse
-accepted_more r rs n at t s p go (inl o) = absurd (let a = o.none in let z : ◌≡◌ {A = ℕ} 0 1 = cc in omega arith)
+accepted_more r rs n at t s p go (inl o) = absurd (let a = o.none in cc)
 accepted_more r rs n at t s p go (inr b) =
     let a = b.parts in
     let k : r ≡ b.head = cc in

@@ -1,5 +1,6 @@
 -- The loop over the neurons of a layer.
-use Rattle.std.proofs.Common.{◌≡◌, ℕ, ◌+◌, ◌≤◌, List, [], ◌∷◌, ◌++◌, map, length, ℤ, Ok, Err, Result, sym, refl, ap, ◌∙◌, add-zero}
+use Rattle.std.proofs.Common.{◌≡◌, ℕ, ◌+◌, ◌≤◌, List, [], ◌∷◌, ◌++◌, map, length, ℤ, Ok, Err, Result, sym, refl, ap, ◌∙◌, add-zero, w32, SFits, to_z, of_z}
+use Rattle.std.proofs.lemmas.Int.{to_z-of_z}
 use Rattle.std.proofs.lemmas.List.{append_assoc, append-nil}
 use Rattle.stage.specs.Stage.{Rule}
 use Rattle.stage.specs.declared.stage.Stage.{Ghosts}
@@ -10,7 +11,7 @@ use Rattle.cordic.specs.declared.states.Refused.{Refused}
 use Rattle.cordic.proofs.Outs.{loop_on, loop_halt}
 use Rattle.network.specs.Neuron.{Neuron, Working, fired}
 use Rattle.network.specs.Placing.{steps_made, later, placed, raised, in_network}
-use Rattle.network.specs.Plain.{neuron_of, layer_of, outs, laid}
+use Rattle.network.specs.Plain.{layer_of, outs, laid}
 use Rattle.network.specs.Run.{output, located, layer}
 use Rattle.network.specs.declared.activation.Activation.{Activation}
 use Rattle.network.specs.declared.faults.NeuronFault.{NeuronFault}
@@ -50,13 +51,6 @@ pub fire_short : {X : Type 0} (S : Ghosts X) (r : Result (Answer X ℤ) (Refused
     → length xs ≤ 64 → seen S r ≡ mapped output (fired rule a xs n s) → steps_made r ≤ 1850
 fire_short S r rule a xs n s l e = rw (made_steps S r, e, mapped_steps output (fired rule a xs n s)) (fired_short rule a xs n s l)
 
--- a neuron as it was read back
-pub fired_is : (rule : Rule) (a : Activation) (xs : List ℤ) (v : Neuron) (b : ℤ) (ws : List ℤ) (s : State) {o : Out ℤ NeuronFault} → b ≡ v.bias → ws ≡ v.weights
-    → o ≡ mapped output (fired rule a xs (neuron_of b ws) s) → o ≡ mapped output (fired rule a xs v s)
-fired_is rule a xs v b ws s e f h =
-    let n : neuron_of b ws ≡ v = rw (e, f) in
-    h ∙ ap (λ n. mapped output (fired rule a xs n s)) n
-
 -- n steps made, ys the outputs so far, s the state now, and the neuron v next
 module _ {X : Type 0} (S : Ghosts X) (rule : Rule) (l : ℕ) (a : Activation) (xs ys : List ℤ) (j n : ℕ) (all ns : List Neuron) (v : Neuron) (s : State) {whole : Out (List ℤ) NetworkFault}
     (inv : counted n (laid rule l a xs ys j all s) ≡ whole) (are : all ≡ v ∷ ns) (r q : Result (Answer X ℤ) (Refused X NeuronFault))
@@ -64,10 +58,10 @@ module _ {X : Type 0} (S : Ghosts X) (rule : Rule) (l : ℕ) (a : Activation) (x
   here : laid rule l a xs ys j all s ≡ onward (λ y. laid rule l a xs (ys ++ y ∷ []) (j + 1) ns) (inside (located l j) (mapped output (fired rule a xs v s)))
   here = rw are (laid_more rule l a xs ys j v ns s)
 
-  pub layer_on : (b : Answer X ℤ) → Ok b ≡ placed (site_at l j) q → counted b.steps (laid rule l a xs (ys ++ b.value ∷ []) (j + 1) ns (state_of S b.unit.stage)) ≡ whole
-  layer_on b g =
+  pub layer_on : (b : Answer X ℤ) (zs : List ℤ) → Ok b ≡ placed (site_at l j) q → SFits w32 b.value → zs ≡ ys ++ to_z w32 (of_z w32 b.value) ∷ [] → counted b.steps (laid rule l a xs zs (j + 1) ns (state_of S b.unit.stage)) ≡ whole
+  layer_on b zs g f p =
       let o = ok_seen (site_at l j) n S in_network r q b k g ∙ ap (λ x. inside (in_network (site_at l j)) (counted n x)) e ∙ located_counted l j n _ in
-      loop_on n _ inv (λ y. laid rule l a xs (ys ++ y ∷ []) (j + 1) ns) _ here o
+      rw (p, to_z-of_z w32 b.value f) (loop_on n _ inv (λ y. laid rule l a xs (ys ++ y ∷ []) (j + 1) ns) _ here o)
 
   pub layer_halt : (w : Within X Site NeuronFault) → Err w ≡ placed (site_at l j) q → seen {V = List ℤ} S (Err (raised in_network w)) ≡ whole
   layer_halt w g =

@@ -19,7 +19,6 @@ pub mod Checks
 pub mod Placing
 pub mod Meaning
 pub mod Quiet
-pub mod Copies
 pub mod Bytes
 pub mod Gathering
 pub mod Walks

@@ -1,6 +1,14 @@
 -- The loop over a neuron's inputs.
-use Rattle.std.proofs.Common.{◌≡◌, ℕ, ◌+◌, ◌<◌, ◌≤◌, List, [], ◌∷◌, length, get_or, drop, ℤ, pos, Some, Ok, Err, Option, Result, refl, ap, ◌∙◌, add-zero, arith}
-use Rattle.std.proofs.lemmas.List.{drop_more, drop_all}
+use Rattle.std.proofs.Common.{◌≡◌, ℕ, ◌+◌, ◌≤◌, ◌⊎◌, inl, inr, List, [], ◌∷◌, ℤ, Some, None, Ok, Err, Option, Result, refl, ap, ◌∙◌, add-zero, arith}
+use Rattle.std.proofs.iter.Yields.{fronts}
+use Rattle.std.proofs.lemmas.Iterator.{zips}
+use Rattle.std.proofs.lemmas.Slice.Zip.{Zip-more, either_empty_from_Zip}
+use Rattle.std.specs.Iterator.Adapters.{enumerate_source, enumerate_count, enumerate_steps, zip_first, zip_second}
+use Rattle.std.specs.Slice.Iter.{iter_rest}
+use Rattle.std.specs.declared.iter.Enumerate.{Enumerate}
+use Rattle.std.specs.declared.iter.Zip.{Zip}
+use Rattle.std.specs.declared.slice.Iter.{Iter}
+use denote.Ref.{Bor}
 use Rattle.stage.specs.Stage.{Rule}
 use Rattle.stage.specs.declared.registers.Triple.{Triple}
 use Rattle.stage.specs.declared.stage.Stage.{Ghosts}
@@ -26,6 +34,11 @@ use Rattle.network.proofs.Short.{made_steps, mapped_steps, passed_short}
 netted_none : (rule : Rule) (i : ℕ) (ws : List ℤ) (y : ℤ) (s : State) → netted rule i [] ws y s ≡ went y 0 s
 unfolding products
 netted_none rule i ws y s = refl
+
+netted_spent : (rule : Rule) (i : ℕ) (xs : List ℤ) (y : ℤ) (s : State) → netted rule i xs [] y s ≡ went y 0 s
+unfolding products
+netted_spent rule i [] y s = refl
+netted_spent rule i (x ∷ xs) y s = refl
 
 value_before : (n : ℕ) (k : Term) (o : Out Net (ℕ × UnitFault)) → mapped net_value (counted n (mapped (before k) o)) ≡ counted n (mapped net_value o)
 value_before n k (went m j s) = refl
@@ -63,24 +76,51 @@ stopped_back f n k i s (stopped g j u) e =
     let b : s ≡ u = cc in
     (g, rw (a, b), (let c : f ≡ in_neuron (Some i) g (k + j) = cc in rw (c, a)))
 
+-- inputs and weights, one after the other, with their number
+abbrev pub Pairs : Type 0
+Pairs = Enumerate (Zip (Iter ℤ) (Iter ℤ))
+
+abbrev pub inputs_left : Pairs → List ℤ
+inputs_left ps = iter_rest (zip_first (enumerate_source ps))
+
+abbrev pub weights_left : Pairs → List ℤ
+weights_left ps = iter_rest (zip_second (enumerate_source ps))
+
+-- what is left to do
+abbrev pub left : Rule → Pairs → ℤ → State → Out ℤ (ℕ × UnitFault)
+left rule ps y s = netted rule (enumerate_count ps) (inputs_left ps) (weights_left ps) y s
+
+-- one turn of the loop takes the next input and the next weight
+pub record Turn (ps more : Pairs) (i : ℕ) (x w : ℤ) : Type 0 where
+  pub place : i ≡ enumerate_count ps
+  pub next : enumerate_count more ≡ enumerate_count ps + 1
+  pub input : inputs_left ps ≡ x ∷ inputs_left more
+  pub weight : weights_left ps ≡ w ∷ weights_left more
+
+pub turned : (ps more : Pairs) (r : Option (ℕ × (Bor ℤ × Bor ℤ))) (p : ℕ × (Bor ℤ × Bor ℤ)) → r ≡ Some p → enumerate_steps (zips fronts fronts) ps r more
+    → Turn ps more p.0 p.1.0.now p.1.1.now
+turned ps more r p e step =
+    let h = rw e at step in
+    let z = Zip-more (enumerate_source ps) (enumerate_source more) (Some p.1) p.1 refl h.0 in
+    record { place = h.1; next = h.2; input = z.0; weight = z.1 }
+
 -- n steps made, y the sum so far, s the state now
-module _ {X : Type 0} (S : Ghosts X) (rule : Rule) (xs ws : List ℤ) (i n : ℕ) (y : ℤ) (s : State) {whole : Out ℤ (ℕ × UnitFault)}
-    (inv : counted n (netted rule i (drop i xs) (drop i ws) y s) ≡ whole) where
-  module _ (h : i < length xs) (k : i < length ws) (r q : Result (Answer X ℤ) (Refused X UnitFault))
-      (e : seen S r ≡ mapped (λ (v : Triple). v.y) (passed rule Linear linear Rotation (start (get_or xs i (pos 0)) y (get_or ws i (pos 0))) s)) (l : q ≡ later n r) where
+module _ {X : Type 0} (S : Ghosts X) (rule : Rule) (ps more : Pairs) (n : ℕ) (y : ℤ) (s : State) {whole : Out ℤ (ℕ × UnitFault)}
+    (inv : counted n (left rule ps y s) ≡ whole) where
+  module _ (i : ℕ) (x w : ℤ) (t : Turn ps more i x w) (r q : Result (Answer X ℤ) (Refused X UnitFault))
+      (e : seen S r ≡ mapped (λ (v : Triple). v.y) (passed rule Linear linear Rotation (start x y w) s)) (l : q ≡ later n r) where
     first : Out ℤ (ℕ × UnitFault)
-    first = inside (at i) (mapped (λ (v : Triple). v.y) (passed rule Linear linear Rotation (start (get_or xs i (pos 0)) y (get_or ws i (pos 0))) s))
+    first = inside (at i) (mapped (λ (v : Triple). v.y) (passed rule Linear linear Rotation (start x y w) s))
 
-    here : netted rule i (drop i xs) (drop i ws) y s ≡ onward (netted rule (i + 1) (drop (i + 1) xs) (drop (i + 1) ws)) first
+    here : left rule ps y s ≡ onward (left rule more) first
     unfolding first
-    here = rw (drop_more xs i (pos 0) h, drop_more ws i (pos 0) k) (netted_more rule i _ _ _ _ y s)
+    here = rw (t.input, t.weight, t.next, ← t.place) (netted_more rule i x w (inputs_left more) (weights_left more) y s)
 
-    pub net_on : (a : Answer X ℤ) → Ok a ≡ placed (Some i) q
-        → counted a.steps (netted rule (i + 1) (drop (i + 1) xs) (drop (i + 1) ws) a.value (state_of S a.unit.stage)) ≡ whole
+    pub net_on : (a : Answer X ℤ) → Ok a ≡ placed (Some i) q → counted a.steps (left rule more a.value (state_of S a.unit.stage)) ≡ whole
     unfolding first
     net_on a g =
         let o = ok_seen (Some i) n S in_neuron r q a l g in
-        loop_on n _ inv (netted rule (i + 1) (drop (i + 1) xs) (drop (i + 1) ws)) first here
+        loop_on n _ inv (left rule more) first here
         (went_back a.value a.steps n i (state_of S a.unit.stage) _ (o ∙ ap (λ x. inside (in_neuron (Some i)) (counted n x)) e))
 
     pub net_halt : (w : Within X (Option ℕ) UnitFault) → Err w ≡ placed (Some i) q → seen {V = ℤ} S (Err (raised in_neuron w)) ≡ inside in_product whole
@@ -89,7 +129,11 @@ module _ {X : Type 0} (S : Ghosts X) (rule : Rule) (xs ws : List ℤ) (i n : ℕ
         let o = err_seen (Some i) n S in_neuron r q w l g ∙ ap (λ x. inside (in_neuron (Some i)) (counted n x)) e in
         let b = stopped_back (raised in_neuron w).fault (raised in_neuron w).steps n i (state_of S (raised in_neuron w).unit.stage) _ o in
         ap (λ f. stopped f (raised in_neuron w).steps (state_of S (raised in_neuron w).unit.stage)) b.2
-        ∙ ap (inside in_product) (loop_halt n _ inv (netted rule (i + 1) (drop (i + 1) xs) (drop (i + 1) ws)) first here b.1)
+        ∙ ap (inside in_product) (loop_halt n _ inv (left rule more) first here b.1)
 
-  pub net_done : length xs ≤ i → went y n s ≡ whole
-  net_done h = let e = drop_all i xs h in rw (e, netted_none rule i (drop i ws) y s, add-zero) at inv
+  pub net_done : {r : Option (ℕ × (Bor ℤ × Bor ℤ))} → r ≡ None → enumerate_steps (zips fronts fronts) ps r more → went y n s ≡ whole
+  net_done e step = by (let h = rw e at step in either_empty_from_Zip (enumerate_source ps) (enumerate_source more) None refl h.0)
+    where
+      by : (inputs_left ps ≡ []) ⊎ (weights_left ps ≡ []) → went y n s ≡ whole
+      by (inl e) = rw (e, netted_none rule (enumerate_count ps) (weights_left ps) y s, add-zero) at inv
+      by (inr e) = rw (e, netted_spent rule (enumerate_count ps) (inputs_left ps) y s, add-zero) at inv

@@ -1,5 +1,5 @@
 -- The faults of a plan, and that each is given where it is due.
-use Rattle.std.proofs.Common.{◌≡◌, ℕ, zero, suc, ◌+◌, ◌<◌, ◌≤◌, Bool, true, false, cond, ◌⊎◌, List, [], ◌∷◌, length, take, Ok, Err, Result, sym, refl, ap, ◌∙◌, subst, inl, inr, arith}
+use Rattle.std.proofs.Common.{◌≡◌, ℕ, zero, suc, ◌+◌, ◌<◌, ◌≤◌, Bool, true, false, cond, ◌⊎◌, List, [], ◌∷◌, length, take, None, Ok, Err, Result, sym, refl, ap, ◌∙◌, subst, inl, inr, arith}
 use Rattle.std.proofs.lemmas.Bool.{cases_order}
 use Rattle.network.specs.declared.record.Record.{Record}
 use Rattle.network.specs.declared.next.Next.TheVariants.{Layer}
@@ -17,10 +17,10 @@ use Rattle.network.proofs.Refusing.{plan_breaks}
 pub plan_shaped : (bs : List ℕ) (hs : List LayerOf) → plan_of bs ≡ Ok hs → Shaped hs × (records bs ≡ layer_records hs)
 unfolding plan_of
 plan_shaped bs hs e =
-    let p = plan_inv (has_bad_length (length bs)) (described (parse (Layer 0 4) 0 (records bs))) hs e in
-    let q = described_inv (parse (Layer 0 4) 0 (records bs)) hs p.1 in
-    let d = describes (records bs) (Layer 0 4) 0 q.0 tt q.1 in
-    (chain_shaped hs (subst (λ l. Chain 0 4 l) q.2 d.1.2), d.0 ∙ ap layer_records q.2)
+    let p = plan_inv (has_bad_length (length bs)) (described (parse (Layer None 4) 0 (records bs))) hs e in
+    let q = described_inv (parse (Layer None 4) 0 (records bs)) hs p.1 in
+    let d = describes (records bs) (Layer None 4) 0 q.0 tt q.1 in
+    (chain_shaped hs (subst (λ l. Chain None 4 l) q.2 d.1.2), d.0 ∙ ap layer_records q.2)
 
 fault_by : (b : Bool) (x : Result Tail ℕ) (why : NetworkFault) → cond b (Err PlanLength) (described x) ≡ Err why → ((b ≡ true) × (why ≡ PlanLength)) ⊎ ((p : ℕ) × (b ≡ false) × (why ≡ PlanRecord p))
 fault_by true x why e = inl (refl, cc)
@@ -29,7 +29,7 @@ fault_by false (Err p) why e = inr (p, refl, cc)
 
 pub plan_fault : (bs : List ℕ) (why : NetworkFault) → plan_of bs ≡ Err why → ((has_bad_length (length bs) ≡ true) × (why ≡ PlanLength)) ⊎ ((p : ℕ) × (has_bad_length (length bs) ≡ false) × (why ≡ PlanRecord p))
 unfolding plan_of
-plan_fault bs why e = fault_by (has_bad_length (length bs)) (parse (Layer 0 4) 0 (records bs)) why e
+plan_fault bs why e = fault_by (has_bad_length (length bs)) (parse (Layer None 4) 0 (records bs)) why e
 
 fault_only : (b : Bool) (why : NetworkFault) → ((b ≡ true) × (why ≡ PlanLength)) ⊎ ((p : ℕ) × (b ≡ false) × (why ≡ PlanRecord p)) → (why ≡ PlanLength) ⊎ ((p : ℕ) × (why ≡ PlanRecord p))
 fault_only b why (inl h) = inl h.1

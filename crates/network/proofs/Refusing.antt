@@ -10,7 +10,7 @@ use Rattle.network.specs.declared.activation.Activation.TheVariants.{Identity}
 use Rattle.network.specs.declared.faults.NetworkFault.{NetworkFault}
 use Rattle.network.specs.declared.faults.NetworkFault.TheVariants.{PlanLength, PlanRecord}
 use Rattle.network.specs.Neuron.{Neuron}
-use Rattle.network.specs.Plan.{records, accept, ends, LayerOf, Tail, onto, carry, follow, ended, parse, described, has_bad_length, plan_of}
+use Rattle.network.specs.Plan.{records, accept, last_width, LayerOf, Tail, onto, carry, follow, ended, parse, described, has_bad_length, plan_of}
 use Rattle.network.specs.Network.{BreaksAt}
 use Rattle.network.specs.Walk.{Sound}
 use Rattle.network.proofs.Walking.{sound_more}
@@ -19,7 +19,8 @@ use Rattle.network.proofs.Law.{records_for, Fitting, Over, Begun, begun, describ
 
 -- a layer may still come, or the plan may end
 abbrev Live : Next → Type 0
-Live (Layer before left) = (0 < before) ⊎ ((before ≡ 0) × (0 < left))
+Live (Layer (Some width) left) = Unit {0}
+Live (Layer None left) = 0 < left
 Live (Bias shape neuron) = Unit {0}
 Live (Weight shape neuron input) = Unit {0}
 
@@ -37,18 +38,18 @@ all_blank inputs (suc k) = (length-replicate inputs (pos 0), all_blank inputs k)
 
 -- some network goes on from here
 filling : (n : Next) → Sound n → Live n → (t : Tail) × Fitting n t
-filling (Layer before left) s (inl h) = (record { weights = []; neurons = []; layers = [] }, (refl, refl, h))
-filling (Layer before left) s (inr h) = (
+filling (Layer (Some width) left) s h = (record { weights = []; neurons = []; layers = [] }, (refl, refl, refl))
+filling (Layer None left) s h = (
   record { weights = []; neurons = []; layers = (record { activation = Identity; inputs = 1; neurons = blank 1 ∷ [] }) ∷ [] },
-  (refl, refl, (h.1, inl h.0, record { some = omega arith; few = omega arith; fed = omega arith; narrow = omega arith; full = (refl, tt) }, omega arith)),
+  (refl, refl, (h, tt, record { some = omega arith; few = omega arith; fed = omega arith; narrow = omega arith; full = (refl, tt) }, refl)),
 )
 filling (Bias shape neuron) s h = (
   record { weights = []; neurons = replicate (shape.neurons - neuron) (blank shape.inputs); layers = [] },
-  (refl, omega (arith, length-replicate (shape.neurons - neuron) (blank shape.inputs), s.0), all_blank shape.inputs _, omega (arith, s.0)),
+  (refl, omega (arith, length-replicate (shape.neurons - neuron) (blank shape.inputs), s.0), all_blank shape.inputs _, refl),
 )
 filling (Weight shape neuron input) s h = (
   record { weights = replicate (shape.inputs - input) (pos 0); neurons = replicate (shape.neurons - (neuron + 1)) (blank shape.inputs); layers = [] },
-  (omega (arith, length-replicate (shape.inputs - input) (pos 0), s.2), omega (arith, length-replicate (shape.neurons - (neuron + 1)) (blank shape.inputs), s.0), all_blank shape.inputs _, omega (arith, s.0)),
+  (omega (arith, length-replicate (shape.inputs - input) (pos 0), s.2), omega (arith, length-replicate (shape.neurons - (neuron + 1)) (blank shape.inputs), s.0), all_blank shape.inputs _, refl),
 )
 
 -- the walk from n breaks after k records
@@ -59,26 +60,23 @@ record Breaks (k : ℕ) (n : Next) (rs : List Record) : Type 0 where
   before : take k (records_for n tail) ≡ take k rs
   broken : (t : Tail) → Fitting n t → take (suc k) (records_for n t) ≡ take (suc k) rs → ⊥
 
-no : {P : Type 0} → ◌≡◌ {A = ℕ} 0 1 → P
-no z = absurd (omega arith)
-
 -- no record is left
-stuck_none : (n : Next) (t : Tail) → ends n ≡ false → take 1 (records_for n t) ≡ [] → Over n t ⊎ Begun n t → ⊥
-stuck_none n t e p (inl o) = let a = o.may in no (cc)
-stuck_none n t e p (inr b) = let a = ap (take 1) b.parts in no (cc)
+stuck_none : (n : Next) (t : Tail) → last_width n ≡ None → take 1 (records_for n t) ≡ [] → Over n t ⊎ Begun n t → ⊥
+stuck_none n t e p (inl o) = let a = o.may in absurd (cc)
+stuck_none n t e p (inr b) = let a = ap (take 1) b.parts in absurd (cc)
 
 -- the record is not one that n takes
 stuck_at : (n : Next) (t : Tail) (r : Record) (rs : List Record) → accept n r ≡ None → take 1 (records_for n t) ≡ r ∷ [] → Over n t ⊎ Begun n t → ⊥
-stuck_at n t r rs e p (inl o) = let a = ap (take 1) o.none in no (cc)
+stuck_at n t r rs e p (inl o) = let a = ap (take 1) o.none in absurd (cc)
 stuck_at n t r rs e p (inr b) =
     let a = ap (take 1) b.parts in
     let k : r ≡ b.head = cc in
     let c = b.taken in
-    no (cc)
+    absurd (cc)
 
 -- the break comes later
 stuck_later : (k : ℕ) (n m : Next) (t : Tail) (r : Record) (rs : List Record) → accept n r ≡ Some m → Breaks k m rs → take (suc (suc k)) (records_for n t) ≡ r ∷ take (suc k) rs → Over n t ⊎ Begun n t → ⊥
-stuck_later k n m t r rs e i p (inl o) = let a = ap (take (suc (suc k))) o.none in no (cc)
+stuck_later k n m t r rs e i p (inl o) = let a = ap (take (suc (suc k))) o.none in absurd (cc)
 stuck_later k n m t r rs e i p (inr b) =
     let a = ap (take (suc (suc k))) b.parts in
     let h : r ≡ b.head = cc in
@@ -87,12 +85,12 @@ stuck_later k n m t r rs e i p (inr b) =
     let q : take (suc k) (records_for b.next b.rest) ≡ take (suc k) rs = cc in
     i.broken b.rest (subst (λ x. Fitting x b.rest) g b.fits) (subst (λ x. take (suc k) (records_for x b.rest) ≡ take (suc k) rs) g q)
 
-ended_err : (b : Bool) (at p : ℕ) → ended b at ≡ Err p → (b ≡ false) × (p ≡ at)
-ended_err true at p e = no (cc)
-ended_err false at p e = (refl, cc)
+ended_err : (o : Option ℕ) (at p : ℕ) → ended o at ≡ Err p → (o ≡ None) × (p ≡ at)
+ended_err (Some width) at p e = absurd (cc)
+ended_err None at p e = (refl, cc)
 
 carry_err : (f : Tail → Tail) (x : Result Tail ℕ) (p : ℕ) → carry f x ≡ Err p → x ≡ Err p
-carry_err f (Ok t) p e = no (cc)
+carry_err f (Ok t) p e = absurd (cc)
 carry_err f (Err q) p e = cc
 
 breaks_by : (o : Option Next) (r : Record) (rs : List Record) (n : Next) (at p : ℕ) → Sound n → Live n → accept n r ≡ o → follow o at (λ m. parse m (at + 1) rs) ≡ Err p → ((m : Next) → Sound m → Live m → parse m (at + 1) rs ≡ Err p → (k : ℕ) × (p ≡ at + 1 + k) × Breaks k m rs) → (k : ℕ) × (p ≡ at + k) × Breaks k n (r ∷ rs)
@@ -120,25 +118,25 @@ breaks_by (Some m) r rs n at p s l a e go =
 breaks : (rs : List Record) (n : Next) (at p : ℕ) → Sound n → Live n → parse n at rs ≡ Err p → (k : ℕ) × (p ≡ at + k) × Breaks k n rs
 unfolding parse
 breaks [] n at p s l e =
-    let q = ended_err (ends n) at p e in
+    let q = ended_err (last_width n) at p e in
     let f = filling n s l in
     (0, omega (arith, q.1), record { within = omega arith; tail = f.0; fits = f.1; before = refl; broken = λ t g h. stuck_none n t q.0 h (begun n t s g) })
 breaks (r ∷ rs) n at p s l e =
     breaks_by (accept n r) r rs n at p s l refl (carry_err (onto n r) _ p e) (λ m. breaks rs m (at + 1) p)
 
 described_err : (x : Result Tail ℕ) (p : ℕ) → described x ≡ Err (PlanRecord p) → x ≡ Err p
-described_err (Ok t) p e = no (cc)
+described_err (Ok t) p e = absurd (cc)
 described_err (Err q) p e = cc
 
 plan_err : (b : Bool) (x : Result (List LayerOf) NetworkFault) (p : ℕ) → cond b (Err PlanLength) x ≡ Err (PlanRecord p) → x ≡ Err (PlanRecord p)
-plan_err true x p e = no (cc)
+plan_err true x p e = absurd (cc)
 plan_err false x p e = e
 
 pub plan_breaks : (bs : List ℕ) (p : ℕ) → plan_of bs ≡ Err (PlanRecord p) → BreaksAt p (records bs)
 unfolding plan_of
 plan_breaks bs p e =
-    let x = described_err (parse (Layer 0 4) 0 (records bs)) p (plan_err (has_bad_length (length bs)) (described (parse (Layer 0 4) 0 (records bs))) p e) in
-    let i = breaks (records bs) (Layer 0 4) 0 p tt (inr (refl, omega arith)) x in
+    let x = described_err (parse (Layer None 4) 0 (records bs)) p (plan_err (has_bad_length (length bs)) (described (parse (Layer None 4) 0 (records bs))) p e) in
+    let i = breaks (records bs) (Layer None 4) 0 p tt (omega arith) x in
     let b = i.2 in
     let k : i.0 ≡ p = omega (arith, i.1) in
     record {

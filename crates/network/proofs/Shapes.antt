@@ -1,5 +1,5 @@
 -- The walk's own account of a network's shape is the network's.
-use Rattle.std.proofs.Common.{◌≡◌, ℕ, ◌+◌, ◌-◌, ◌<◌, ◌≤◌, ◌⊎◌, List, [], ◌∷◌, ◌++◌, length, ℤ, pos, refl, inl, inr, arith, w32, SFits}
+use Rattle.std.proofs.Common.{ℕ, ◌+◌, ◌-◌, ◌≤◌, Option, Some, None, List, [], ◌∷◌, ◌++◌, length, ℤ, pos, refl, arith, w32, SFits}
 use Rattle.std.specs.List.{AllByRecursion}
 use Rattle.std.proofs.ByRecursion.{All-append}
 use Rattle.network.specs.declared.record.Record.{Record}
@@ -8,33 +8,29 @@ use Rattle.network.specs.Plan.{LayerOf}
 use Rattle.network.specs.Network.{weight_records, neuron_records, layer_records, Sized, Follows, Shaped, Words}
 use Rattle.network.proofs.Law.{Chain}
 
-pub sized_all : (before left : ℕ) (ls : List LayerOf) → Chain before left ls → AllByRecursion Sized ls
+pub sized_all : (before : Option ℕ) (left : ℕ) (ls : List LayerOf) → Chain before left ls → AllByRecursion Sized ls
 sized_all before left [] c = tt
-sized_all before left (l ∷ ls) c = (c.2, sized_all (length l.neurons) (left - 1) ls c.3)
+sized_all before left (l ∷ ls) c = (c.2, sized_all (Some (length l.neurons)) (left - 1) ls c.3)
 
-chain_few : (before left : ℕ) (ls : List LayerOf) → Chain before left ls → length ls ≤ left
+chain_few : (before : Option ℕ) (left : ℕ) (ls : List LayerOf) → Chain before left ls → length ls ≤ left
 chain_few before left [] c = omega arith
-chain_few before left (l ∷ ls) c = omega (arith, c.0, chain_few (length l.neurons) (left - 1) ls c.3)
+chain_few before left (l ∷ ls) c = omega (arith, c.0, chain_few (Some (length l.neurons)) (left - 1) ls c.3)
 
-met : (before inputs : ℕ) → 0 < before → (before ≡ 0) ⊎ (inputs ≡ before) → inputs ≡ before
-met before inputs h (inl e) = absurd (omega arith)
-met before inputs h (inr e) = e
+chain_follows : (before left : ℕ) (ls : List LayerOf) → Chain (Some before) left ls → Follows before ls
+chain_follows before left [] c = tt
+chain_follows before left (l ∷ ls) c = (c.1, chain_follows (length l.neurons) (left - 1) ls c.3)
 
-chain_follows : (before left : ℕ) (ls : List LayerOf) → 0 < before → Chain before left ls → Follows before ls
-chain_follows before left [] h c = tt
-chain_follows before left (l ∷ ls) h c = (met before l.inputs h c.1, chain_follows (length l.neurons) (left - 1) ls c.2.some c.3)
+follows_chain : (before left : ℕ) (ls : List LayerOf) → length ls ≤ left → AllByRecursion Sized ls → Follows before ls → Chain (Some before) left ls
+follows_chain before left [] n s f = refl
+follows_chain before left (l ∷ ls) n s f = (omega arith, f.0, s.0, follows_chain (length l.neurons) (left - 1) ls (omega arith) s.1 f.1)
 
-follows_chain : (before left : ℕ) (ls : List LayerOf) → 0 < before → length ls ≤ left → AllByRecursion Sized ls → Follows before ls → Chain before left ls
-follows_chain before left [] h n s f = h
-follows_chain before left (l ∷ ls) h n s f = (omega arith, inr f.0, s.0, follows_chain (length l.neurons) (left - 1) ls s.0.some (omega arith) s.1 f.1)
+pub chain_shaped : (ls : List LayerOf) → Chain None 4 ls → Shaped ls
+chain_shaped [] c = absurd (cc)
+chain_shaped (l ∷ ls) c = record { some = omega arith; few = chain_few None 4 (l ∷ ls) c; sized = sized_all None 4 (l ∷ ls) c; chained = chain_follows (length l.neurons) 3 ls c.3 }
 
-pub chain_shaped : (ls : List LayerOf) → Chain 0 4 ls → Shaped ls
-chain_shaped [] c = absurd (omega (arith, c))
-chain_shaped (l ∷ ls) c = record { some = omega arith; few = chain_few 0 4 (l ∷ ls) c; sized = sized_all 0 4 (l ∷ ls) c; chained = chain_follows (length l.neurons) 3 ls c.2.some c.3 }
-
-pub shaped_chain : (ls : List LayerOf) → Shaped ls → Chain 0 4 ls
+pub shaped_chain : (ls : List LayerOf) → Shaped ls → Chain None 4 ls
 shaped_chain [] s = absurd (let n = s.some in omega arith)
-shaped_chain (l ∷ ls) s = let n = s.few in (omega arith, inl refl, s.sized.0, follows_chain (length l.neurons) 3 ls s.sized.0.some (omega arith) s.sized.1 s.chained)
+shaped_chain (l ∷ ls) s = let n = s.few in (omega arith, tt, s.sized.0, follows_chain (length l.neurons) 3 ls (omega arith) s.sized.1 s.chained)
 
 all_left : {X : Type 0} (P : X → Type 0) (xs ys : List X) → AllByRecursion P (xs ++ ys) → AllByRecursion P xs
 all_left P [] ys a = tt

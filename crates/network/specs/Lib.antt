@@ -1,6 +1,7 @@
 -- From a sample up to the whole claim, in the order of reading.
 pub mod Sample
 pub mod Neuron
+pub mod Codes
 pub mod Plan
 pub mod Network
 pub mod Run
@@ -10,7 +11,6 @@ pub mod Refusals
 pub mod Claim
 pub mod Reading
 pub mod Walk
-pub mod Bank
 pub mod Gathered
 pub mod Placing
 pub mod Plain

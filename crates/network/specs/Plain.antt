@@ -2,7 +2,10 @@
 use Rattle.std.specs.Prelude.{ℕ, List, [], ◌∷◌, ◌++◌, map, ℤ, Some}
 use Rattle.stage.specs.Stage.{Rule}
 use Rattle.cordic.specs.Outcome.{State, Out, mapped}
+use Rattle.stage.specs.declared.registers.Triple.{Triple}
 use Rattle.cordic.specs.declared.faults.UnitFault.{UnitFault}
+use Rattle.cordic.specs.declared.mode.Mode.{Mode}
+use Rattle.cordic.specs.declared.mode.Mode.TheVariants.{Rotation, Vectoring}
 use Rattle.network.specs.Neuron.{Neuron, Net, Working, products}
 use Rattle.network.specs.Placing.{in_neuron}
 use Rattle.network.specs.Plan.{LayerOf}
@@ -14,6 +17,11 @@ use Rattle.network.specs.declared.faults.NeuronFault.{NeuronFault}
 abbrev pub net_value : Net → ℤ
 net_value m = m.value
 
+-- the register that a linear pass computes
+abbrev pub computed : Mode → Triple → ℤ
+computed Rotation t = t.y
+computed Vectoring t = t.z
+
 -- the net alone
 abbrev pub netted : Rule → ℕ → List ℤ → List ℤ → ℤ → State → Out ℤ (ℕ × UnitFault)
 netted rule i xs ws y s = mapped net_value (products rule i xs ws y s)
@@ -21,9 +29,6 @@ netted rule i xs ws y s = mapped net_value (products rule i xs ws y s)
 -- a fault of the product of an input
 abbrev pub in_product : ℕ × UnitFault → ℕ → NeuronFault
 in_product p n = in_neuron (Some p.0) p.1 n
-
-abbrev pub neuron_of : ℤ → List ℤ → Neuron
-neuron_of b ws = record { bias = b; weights = ws }
 
 -- a layer of this activation, of which nothing else is read
 abbrev pub layer_of : Activation → LayerOf

@@ -11,12 +11,6 @@ Sound (Layer prior left) = Unit {0}
 Sound (Bias shape neuron) = (neuron < shape.neurons) × (shape.neurons ≤ 64) × (0 < shape.inputs) × (shape.inputs ≤ 64)
 Sound (Weight shape neuron input) = (neuron < shape.neurons) × (shape.neurons ≤ 64) × (input < shape.inputs) × (shape.inputs ≤ 64)
 
--- the neurons of the layer before
-abbrev pub width_of : Next → ℕ
-width_of (Layer prior left) = prior
-width_of (Bias shape neuron) = 0
-width_of (Weight shape neuron input) = 0
-
 abbrev pub given : Result (List LayerOf) NetworkFault → List LayerOf
 given (Ok hs) = hs
 given (Err why) = []

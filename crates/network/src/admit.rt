@@ -3,18 +3,18 @@ ghost use Rattle.std.specs.Prelude.{◌≡◌, map, length};
 ghost use Rattle.network.specs.Admitted.{Admits};
 ghost use Rattle.network.specs.Run.{Feed};
 
-use super::bank::Bank;
 use super::faults::NetworkFault;
 use super::gather::gather;
 use super::plan::Plan;
 use super::sample::Sample;
+use arrayvec::ArrayVec;
 
 // The inputs of the first layer, or the first check that fails.
 pub(crate) fn admit<P: Sample>(
     bytes: &[u8],
     samples: &[P],
     places: usize,
-) -> Result<Bank, NetworkFault>
+) -> Result<ArrayVec<i32, 64>, NetworkFault>
     ensures answer { (f : Feed) → f.plan ≡ bytes.now → f.samples ≡ map P.Sample.yields samples.now → length f.places ≡ places → Admits f result }
 {
     let plan = Plan::decode(bytes)?;
@@ -24,8 +24,5 @@ pub(crate) fn admit<P: Sample>(
     if samples.len() != plan.inputs() {
         return Err(NetworkFault::SampleCount);
     }
-    match gather(samples) {
-        Ok(bank) => Ok(bank),
-        Err(position) => Err(NetworkFault::NoSample { position }),
-    }
+    gather(samples)
 }

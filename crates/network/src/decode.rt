@@ -9,9 +9,13 @@ use super::faults::NetworkFault;
 use super::next::Next;
 use super::plan::Plan;
 use super::record::Record;
+use super::records::Records;
 
 // A plan begins with a layer, and has at most four.
-const START: Next = Next::Layer { before: 0, left: 4 };
+const START: Next = Next::Layer {
+    before: None,
+    left: 4,
+};
 
 // Not one to 8191 whole records?
 fn bad_length(len: usize) -> bool
@@ -28,21 +32,15 @@ fn judge(bytes: &[u8]) -> Result<u16, NetworkFault>
         return Err(NetworkFault::PlanLength);
     }
     let mut next = START;
-    let mut position: u32 = 0;
-    let mut rest = bytes;
-    while let Some((given, tail)) = Record::read(rest) {
-        let Some(then) = next.accept(given) else {
-            return Err(NetworkFault::PlanRecord { position });
-        };
-        next = then;
-        position += 1;
-        rest = tail;
+    for (position, given) in Records::of(bytes).enumerate() {
+        // the cast fits, as the one below does: at most 8191 records
+        next = next.accept(given).ok_or(NetworkFault::PlanRecord {
+            position: position as u32,
+        })?;
     }
-    if next.ends() {
-        Ok(next.width())
-    } else {
-        Err(NetworkFault::PlanRecord { position })
-    }
+    next.last_width().ok_or(NetworkFault::PlanRecord {
+        position: (bytes.len() / 8) as u32,
+    })
 }
 
 impl<'a> Plan<'a> {
@@ -54,12 +52,14 @@ impl<'a> Plan<'a> {
     {
         let outputs = judge(bytes)?;
         let Some((head, _)) = Record::read(bytes) else {
+            // a plan has a record; a walk that also hands on its first one is no plainer
             unreachable()
         };
         Ok(Plan {
             bytes,
+            // fits: 1 to 64
             inputs: head.value as usize,
-            outputs: outputs as usize,
+            outputs: usize::from(outputs),
         })
     }
 

@@ -33,7 +33,7 @@ pub enum NetworkFault {
     Places,
 }
 
-// All that a fault says, by its number. Positions are counted from 0.
+// All that a fault says, by its number. Positions are counted from 0. The numbers are fixed for those outside; inside, the fault is the enum above.
 #[derive(Clone, Copy, PartialEq, Eq, Debug)]
 pub struct Report {
     pub number: u8,

@@ -1,14 +1,14 @@
 // A neuron at its inputs: the net, then the activation.
-ghost use Rattle.std.specs.Prelude.{◌≡◌, ◌≤◌, length};
+ghost use Rattle.std.specs.Prelude.{◌≡◌};
 ghost use Rattle.cordic.specs.Outcome.{mapped};
 ghost use Rattle.cordic.specs.Seen.{state_of, seen};
 ghost use Rattle.network.specs.Neuron.{fired};
-ghost use Rattle.network.specs.Plain.{neuron_of};
 ghost use Rattle.network.specs.Run.{output};
 
 use super::activation::Activation;
 use super::faults::NeuronFault;
 use super::net::net;
+use super::neurons::Neuron;
 use super::tanh::tanh;
 use super::within::{later, placed};
 use cordic::{Answer, Idle, Refused};
@@ -18,13 +18,11 @@ pub(crate) fn fire<S: Stage>(
     unit: Idle<S>,
     activation: Activation,
     inputs: &[i32],
-    bias: i32,
-    weights: &[i32],
+    neuron: &Neuron,
 ) -> Result<Answer<S, i32>, Refused<S, NeuronFault>>
-    requires { (length inputs.now ≡ length weights.now) × (length inputs.now ≤ 64) }
-    ensures answer { seen S.Stage result ≡ mapped output (fired S.Stage.rule activation inputs.now (neuron_of bias weights.now) (state_of S.Stage unit.stage)) }
+    ensures answer { seen S.Stage result ≡ mapped output (fired S.Stage.rule activation inputs.now neuron.now (state_of S.Stage unit.stage)) }
 {
-    let answer = net(unit, inputs, weights, bias)?;
+    let answer = net(unit, inputs, neuron)?;
     match activation {
         Activation::Identity => Ok(answer),
         Activation::Tanh => {

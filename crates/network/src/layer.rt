@@ -2,19 +2,18 @@
 ghost use Rattle.std.specs.Prelude.{◌≡◌, ◌≤◌, List, [], length};
 ghost use Rattle.cordic.specs.Outcome.{mapped};
 ghost use Rattle.cordic.specs.Seen.{state_of, seen};
-ghost use Rattle.network.specs.Bank.{words_of};
-ghost use Rattle.network.specs.Neuron.{Neuron};
+ghost use Rattle.network.specs.Neuron.{Neuron as NeuronOf};
 ghost use Rattle.network.specs.Plain.{laid};
 ghost use Rattle.network.specs.Plan.{LayerOf, records};
 ghost use Rattle.network.specs.Reading.{Ahead};
 
 use super::activation::Activation;
-use super::bank::Bank;
 use super::faults::{NetworkFault, NeuronFault};
 use super::fire::fire;
-use super::neurons::read_neuron;
+use super::neurons::Neuron;
 use super::site::Site;
 use super::within::{later, placed};
+use arrayvec::ArrayVec;
 use cordic::{Answer, Idle, Refused};
 use stage::Stage;
 
@@ -32,39 +31,39 @@ pub(crate) fn run_layer<S: Stage>(
     head: Head,
     bytes: &[u8],
     inputs: &[i32],
-) -> Result<Answer<S, Bank>, Refused<S, NetworkFault>>
-    requires { (((ns : List Neuron) × (ls : List LayerOf) × Ahead (records bytes.now) 0 head.neurons (length inputs.now) ns ls)) × (head.neurons ≤ 64) }
-    ensures answer { (ns : List Neuron) (ls : List LayerOf) → Ahead (records bytes.now) 0 head.neurons (length inputs.now) ns ls → mapped words_of (seen S.Stage result) ≡ laid S.Stage.rule head.number head.activation inputs.now [] 0 ns (state_of S.Stage unit.stage) }
+) -> Result<Answer<S, ArrayVec<i32, 64>>, Refused<S, NetworkFault>>
+    requires { (((ns : List NeuronOf) × (ls : List LayerOf) × Ahead (records bytes.now) 0 head.neurons (length inputs.now) ns ls)) × (head.neurons ≤ 64) }
+    ensures answer { (ns : List NeuronOf) (ls : List LayerOf) → Ahead (records bytes.now) 0 head.neurons (length inputs.now) ns ls → mapped (λ v. v.items) (seen S.Stage result) ≡ laid S.Stage.rule head.number head.activation inputs.now [] 0 ns (state_of S.Stage unit.stage) }
 {
-    let mut weights = [0; 64];
     let mut answer = Answer {
         unit,
-        value: Bank::new(),
+        value: ArrayVec::new(),
         steps: 0,
     };
     let mut rest = bytes;
-    for neuron in 0..head.neurons {
-        let Answer { unit, value, steps } = answer;
-        let (bias, tail) = read_neuron(rest, inputs.len(), &mut weights);
+    // the rest is what the reader of a neuron answers, and no index
+    for number in 0..head.neurons {
+        let Answer {
+            unit,
+            value: mut outputs,
+            steps,
+        } = answer;
+        let (neuron, tail) = Neuron::read(rest, inputs.len());
         let site = Site {
             layer: head.number,
-            neuron: neuron as u32,
+            // widens; by `From` the proof has an equation more, and a reader no more
+            neuron: number as u32,
         };
-        let fired = fire(
-            unit,
-            head.activation,
-            inputs,
-            bias,
-            &weights[0..inputs.len()],
-        );
+        let fired = fire(unit, head.activation, inputs, &neuron);
         let Answer {
             unit,
             value: output,
             steps,
         } = placed(later(fired, steps), site)?;
+        outputs.push(output);
         answer = Answer {
             unit,
-            value: value.push(output),
+            value: outputs,
             steps,
         };
         rest = tail;

@@ -2,31 +2,19 @@
 ghost use Rattle.std.specs.Prelude.{◌≡◌, ◌+◌, ◌*◌, ◌≤◌, length, drop};
 ghost use Rattle.cordic.specs.Outcome.{mapped};
 ghost use Rattle.cordic.specs.Seen.{state_of, seen};
-ghost use Rattle.network.specs.Bank.{words_of};
 ghost use Rattle.network.specs.Network.{Describes};
 ghost use Rattle.network.specs.Plain.{flown};
-ghost use Rattle.network.specs.Plan.{activation_at};
 ghost use Rattle.network.specs.Run.{entrance};
 ghost use Rattle.network.specs.Walk.{layers_of};
 
 use super::activation::Activation;
-use super::bank::Bank;
 use super::faults::NetworkFault;
 use super::layer::{Head, run_layer};
 use super::record::Record;
 use super::within::later;
+use arrayvec::ArrayVec;
 use cordic::{Answer, Idle, Refused};
 use stage::Stage;
-
-fn activation_of(flag: u8) -> Activation
-    ensures answer { result ≡ activation_at flag }
-{
-    if flag == 0 {
-        Activation::Identity
-    } else {
-        Activation::Tanh
-    }
-}
 
 // What follows the records of these neurons.
 fn after_neurons(bytes: &[u8], neurons: usize, inputs: usize) -> &[u8]
@@ -37,32 +25,37 @@ fn after_neurons(bytes: &[u8], neurons: usize, inputs: usize) -> &[u8]
     &bytes[size..]
 }
 
-// The outputs of the last layer.
+// The outputs of the last layer, of which a plan has at most four.
 pub(crate) fn run_layers<S: Stage>(
     unit: Idle<S>,
     plan: &[u8],
-    inputs: Bank,
-) -> Result<Answer<S, Bank>, Refused<S, NetworkFault>>
-    requires { (Describes (layers_of plan.now) plan.now) × (length (words_of inputs) ≡ entrance (layers_of plan.now)) }
-    ensures answer { mapped words_of (seen S.Stage result) ≡ flown S.Stage.rule 0 (layers_of plan.now) (words_of inputs) (state_of S.Stage unit.stage) }
+    inputs: ArrayVec<i32, 64>,
+) -> Result<Answer<S, ArrayVec<i32, 64>>, Refused<S, NetworkFault>>
+    requires { (Describes (layers_of plan.now) plan.now) × (length inputs.items ≡ entrance (layers_of plan.now)) }
+    ensures answer { mapped (λ v. v.items) (seen S.Stage result) ≡ flown S.Stage.rule 0 (layers_of plan.now) inputs.items (state_of S.Stage unit.stage) }
 {
     let mut answer = Answer {
         unit,
         value: inputs,
         steps: 0,
     };
-    let mut number: u32 = 0;
     let mut rest = plan;
-    while let Some((head, tail)) = Record::read(rest) {
+    for number in 0..4 {
+        let Some((head, tail)) = Record::read(rest) else {
+            break;
+        };
         let Answer { unit, value, steps } = answer;
+        let Ok(activation) = Activation::try_from(head.flag) else {
+            unreachable()
+        };
         let opened = Head {
             number,
-            activation: activation_of(head.flag),
+            activation,
             neurons: head.index,
         };
+        // the cast widens; by `From` the proof has an equation more, and a reader no more
         rest = after_neurons(tail, head.index as usize, value.len());
-        answer = later(run_layer(unit, opened, tail, value.words()), steps)?;
-        number += 1;
+        answer = later(run_layer(unit, opened, tail, value.as_slice()), steps)?;
     }
     Ok(answer)
 }

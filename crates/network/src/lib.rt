@@ -3,11 +3,14 @@
 
 mod activation;
 mod admit;
-mod bank;
+mod code;
+mod compute;
 mod decode;
+mod deliver;
 mod faults;
 mod fire;
 mod gather;
+mod kind;
 mod layer;
 mod layers;
 mod net;
@@ -17,6 +20,7 @@ mod plan;
 mod ran;
 mod reader;
 mod record;
+mod records;
 mod reports;
 mod runs;
 mod sample;
@@ -28,9 +32,12 @@ mod walk;
 mod within;
 
 pub use activation::Activation;
+pub use code::UnknownCode;
 pub use faults::{Located, NetworkFault, NeuronFault, Report};
+pub use kind::RecordKind;
 pub use plan::Plan;
 pub use ran::Ran;
 pub use record::Record;
+pub use records::Records;
 pub use runs::run;
 pub use sample::{ConverterWord, Sample, SampleRecord};

@@ -10,9 +10,9 @@ pub struct Shape {
 
 #[derive(Clone, Copy)]
 pub enum Next {
-    // a layer, after one of `before` neurons (0: none yet), or the end
+    // a layer, after one of `before` neurons, or the end where there is one
     Layer {
-        before: u16,
+        before: Option<u16>,
         left: u8,
     },
     Bias {

@@ -1,11 +1,12 @@
 // The network run: the one call that a program makes.
-ghost use Rattle.std.specs.Prelude.{◌≡◌, ◌*◌, ◌≤◌, length, IfOk};
+ghost use Rattle.std.specs.Prelude.{◌≡◌, ◌≤◌, length, IfOk};
 ghost use Rattle.cordic.specs.Outcome.{mapped};
 ghost use Rattle.network.specs.Claim.{Whole};
 ghost use Rattle.network.specs.Run.{recurrence, outputs, written};
 ghost use Rattle.network.specs.Seen.{feed_of, attempted, seen_by};
 
 use super::admit::admit;
+use super::deliver::deliver;
 use super::faults::NetworkFault;
 use super::layers::run_layers;
 use super::ran::Ran;
@@ -24,8 +25,9 @@ fn attempt<S: Stage, P: Sample>(
     ensures within { IfOk result (λ a. a.value ≤ length out.new) }
     ensures lent { out.new ≡ written (recurrence (feed_of S.Stage P.Sample plan.now samples.now out.old unit.stage)) out.old }
 {
+    // the unit goes back with the fault, so that `?` cannot return it
     let inputs = match admit(plan, samples, out.len()) {
-        Ok(bank) => bank,
+        Ok(inputs) => inputs,
         Err(fault) => {
             return Err(Refused {
                 unit,
@@ -35,18 +37,12 @@ fn attempt<S: Stage, P: Sample>(
         }
     };
     let Answer { unit, value, steps } = run_layers(unit, plan, inputs)?;
-    value.deliver(out);
+    deliver(value.as_slice(), out);
     Ok(Answer {
         unit,
         value: value.len(),
         steps,
     })
-}
-
-fn ticks<S: Stage>(steps: u32) -> u64
-    ensures answer { result ≡ steps * S.Stage.ticks }
-{
-    steps as u64 * S::step_ticks() as u64
 }
 
 // Runs the plan on the samples and writes the outputs of the last layer into the first places of `out`.
@@ -58,26 +54,16 @@ pub fn run<S: Stage, P: Sample>(
     out: &mut [i32],
 ) -> Ran<S>
     ensures within { IfOk result.outcome (λ k. k ≤ length out.new) }
-    ensures whole { Whole (feed_of S.Stage P.Sample plan.now samples.now out.old unit.stage) S.Stage.ticks (seen_by S.Stage out.new result) result.ticks out.new }
+    ensures whole { Whole (feed_of S.Stage P.Sample plan.now samples.now out.old unit.stage) S.Stage.TICKS (seen_by S.Stage out.new result) result.ticks out.new }
 {
-    match attempt(unit, plan, samples, out) {
-        Ok(a) => {
-            let Answer { unit, value, steps } = a;
-            Ran {
-                unit,
-                outcome: Ok(value),
-                steps,
-                ticks: ticks::<S>(steps),
-            }
-        }
-        Err(e) => {
-            let Refused { unit, fault, steps } = e;
-            Ran {
-                unit,
-                outcome: Err(fault),
-                steps,
-                ticks: ticks::<S>(steps),
-            }
-        }
+    let (unit, outcome, steps) = match attempt(unit, plan, samples, out) {
+        Ok(Answer { unit, value, steps }) => (unit, Ok(value), steps),
+        Err(Refused { unit, fault, steps }) => (unit, Err(fault), steps),
+    };
+    Ran {
+        unit,
+        outcome,
+        steps,
+        ticks: S::ticks_in(steps),
     }
 }

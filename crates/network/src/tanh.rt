@@ -2,27 +2,12 @@
 ghost use Rattle.std.specs.Prelude.{◌≡◌};
 ghost use Rattle.cordic.specs.Outcome.{mapped};
 ghost use Rattle.cordic.specs.Seen.{state_of, seen};
-ghost use Rattle.cordic.specs.Tables.{linear};
-ghost use Rattle.cordic.specs.Unit.{passed};
-ghost use Rattle.cordic.specs.declared.mode.Mode.TheVariants.{Vectoring};
 ghost use Rattle.network.specs.Neuron.{tanh as tanh_of};
-ghost use Rattle.stage.specs.declared.step.System.TheVariants.{Linear as LinearSystem};
 
+use super::compute::compute;
 use super::within::later;
-use cordic::{Answer, Hyperbolic, Idle, Linear, Mode, Refused, UnitFault};
+use cordic::{Answer, Hyperbolic, Idle, Mode, Refused, UnitFault};
 use stage::{Stage, Triple};
-
-// The z of a linear vectoring: y / x.
-fn divide<S: Stage>(unit: Idle<S>, t: Triple) -> Result<Answer<S, i32>, Refused<S, UnitFault>>
-    ensures answer { seen S.Stage result ≡ mapped (λ q. q.z) (passed S.Stage.rule LinearSystem linear Vectoring t (state_of S.Stage unit.stage)) }
-{
-    let Answer { unit, value, steps } = unit.pass(Linear, Mode::Vectoring, t)?;
-    Ok(Answer {
-        unit,
-        value: value.z,
-        steps,
-    })
-}
 
 pub(crate) fn tanh<S: Stage>(
     unit: Idle<S>,
@@ -41,5 +26,5 @@ pub(crate) fn tanh<S: Stage>(
         y: value.y,
         z: 0,
     };
-    later(divide(unit, registers), steps)
+    later(compute(unit, Mode::Vectoring, registers), steps)
 }

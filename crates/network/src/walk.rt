@@ -1,32 +1,32 @@
 // One record of a plan after another: what may stand there, and what may follow it.
 ghost use Rattle.std.specs.Prelude.{◌≡◌, ◌<◌};
-ghost use Rattle.network.specs.Plan.{accept, opened, filled, ends};
-ghost use Rattle.network.specs.Walk.{Sound, width_of};
+ghost use Rattle.network.specs.Plan.{accept, opened, filled, last_width};
+ghost use Rattle.network.specs.Walk.{Sound};
 
+use super::activation::Activation;
+use super::kind::RecordKind;
 use super::next::{Next, Shape};
 use super::record::Record;
 
-fn open_layer(before: u16, left: u8, given: Record) -> Option<Next>
+// What a record of kind `Layer` opens.
+fn open_layer(before: Option<u16>, left: u8, given: Record) -> Option<Next>
+    requires { given.kind ≡ 1 }
     ensures answer { result ≡ opened before left given }
 {
-    if given.kind == 1
-        && given.flag <= 1
-        && given.index >= 1
-        && given.index <= 64
-        && given.value >= 1
-        && given.value <= 64
-    {
-        let inputs = given.value as u16;
-        if left > 0 && (before == 0 || inputs == before) {
-            let shape = Shape {
-                neurons: given.index,
-                inputs,
-                left: left - 1,
-            };
-            return Some(Next::Bias { shape, neuron: 0 });
-        }
+    let shape = Shape {
+        neurons: given.index,
+        inputs: u16::try_from(given.value).ok()?,
+        left: left.checked_sub(1)?,
+    };
+    let joined = before.is_none_or(|width| shape.inputs == width);
+    match (
+        Activation::try_from(given.flag),
+        shape.neurons,
+        shape.inputs,
+    ) {
+        (Ok(_), 1..=64, 1..=64) if joined => Some(Next::Bias { shape, neuron: 0 }),
+        _ => None,
     }
-    None
 }
 
 // What comes after the weight of `input` of `neuron`.
@@ -47,62 +47,49 @@ fn after_weight(shape: Shape, neuron: u16, input: u16) -> Next
         }
     } else {
         Next::Layer {
-            before: shape.neurons,
+            before: Some(shape.neurons),
             left: shape.left,
         }
     }
 }
 
 impl Next {
-    // What may follow a record, where it may stand at all.
+    // What may follow a record, where it may stand at all. (The flag of a bias or a weight is 0 and stands for nothing.)
     pub(crate) fn accept(self, given: Record) -> Option<Next>
         requires { Sound self }
         ensures answer { result ≡ accept self given }
     {
-        match self {
-            Next::Layer { before, left } => open_layer(before, left, given),
-            Next::Bias { shape, neuron } => {
-                if given.kind == 2 && given.flag == 0 && given.index == neuron {
-                    Some(Next::Weight {
-                        shape,
-                        neuron,
-                        input: 0,
-                    })
-                } else {
-                    None
-                }
+        match (self, RecordKind::try_from(given.kind).ok()?) {
+            (Next::Layer { before, left }, RecordKind::Layer) => open_layer(before, left, given),
+            (Next::Bias { shape, neuron }, RecordKind::Bias)
+                if given.flag == 0 && given.index == neuron => {
+                Some(Next::Weight {
+                    shape,
+                    neuron,
+                    input: 0,
+                })
             }
-            Next::Weight {
-                shape,
-                neuron,
-                input,
-            } => {
-                if given.kind == 3 && given.flag == 0 && given.index == input {
-                    Some(after_weight(shape, neuron, input))
-                } else {
-                    None
-                }
+            (
+                Next::Weight {
+                    shape,
+                    neuron,
+                    input,
+                },
+                RecordKind::Weight,
+            ) if given.flag == 0 && given.index == input => {
+                Some(after_weight(shape, neuron, input))
             }
+            _ => None,
         }
     }
 
-    // May the plan end here?
-    pub(crate) fn ends(self) -> bool
-        ensures answer { result ≡ ends self }
-    {
-        match self {
-            Next::Layer { before, .. } => before > 0,
-            Next::Bias { .. } | Next::Weight { .. } => false,
-        }
-    }
-
-    // The neurons of the layer before, at its end.
-    pub(crate) fn width(self) -> u16
-        ensures answer { result ≡ width_of self }
+    // The neurons of the last layer, where the plan may end here.
+    pub(crate) fn last_width(self) -> Option<u16>
+        ensures answer { result ≡ last_width self }
     {
         match self {
             Next::Layer { before, .. } => before,
-            Next::Bias { .. } | Next::Weight { .. } => 0,
+            Next::Bias { .. } | Next::Weight { .. } => None,
         }
     }
 }

@@ -6,45 +6,36 @@ use super::faults::{Located, NetworkFault, NeuronFault};
 use super::site::{Site, Within};
 use cordic::{Answer, Refused, UnitFault};
 
-// The same with `before` steps made before.
+// The same with `before` steps made before. (Closures for `map` and `map_err` would have to state the bound on the sum again, each for itself.)
 pub(crate) fn later<S, V, F>(
-    r: Result<Answer<S, V>, Refused<S, F>>,
+    outcome: Result<Answer<S, V>, Refused<S, F>>,
     before: u32,
 ) -> Result<Answer<S, V>, Refused<S, F>>
-    requires { before + steps_made r < 2 ^ 32 }
-    ensures answer { result ≡ later_by before r }
+    requires { before + steps_made outcome < 2 ^ 32 }
+    ensures answer { result ≡ later_by before outcome }
 {
-    match r {
-        Ok(a) => {
-            let Answer { unit, value, steps } = a;
-            Ok(Answer {
-                unit,
-                value,
-                steps: before + steps,
-            })
-        }
-        Err(e) => {
-            let Refused { unit, fault, steps } = e;
-            Err(Refused {
-                unit,
-                fault,
-                steps: before + steps,
-            })
-        }
+    match outcome {
+        Ok(Answer { unit, value, steps }) => Ok(Answer {
+            unit,
+            value,
+            steps: before + steps,
+        }),
+        Err(Refused { unit, fault, steps }) => Err(Refused {
+            unit,
+            fault,
+            steps: before + steps,
+        }),
     }
 }
 
 // The same with the place where it arose.
 pub(crate) fn placed<S, P: Copy, V, F>(
-    r: Result<Answer<S, V>, Refused<S, F>>,
+    outcome: Result<Answer<S, V>, Refused<S, F>>,
     place: P,
 ) -> Result<Answer<S, V>, Within<S, P, F>>
-    ensures answer { result ≡ placed_at place r }
+    ensures answer { result ≡ placed_at place outcome }
 {
-    match r {
-        Ok(a) => Ok(a),
-        Err(refused) => Err(Within { place, refused }),
-    }
+    outcome.map_err(|refused| Within { place, refused })
 }
 
 impl<S> From<Within<S, Option<u32>, UnitFault>> for Refused<S, NeuronFault> {

@@ -1,3 +1,4 @@
 pub mod Inputs
 pub mod Verdicts
 pub mod Lines
+pub mod Fields

@@ -1,34 +1,20 @@
 -- What the program decides: the plan is judged first, then standard input, then the run.
-use Rattle.std.specs.Prelude.{ℕ, List, [], map, take, replicate, ℤ, pos, Some, None, Ok, Err, Option, Result}
+use Rattle.std.specs.Prelude.{ℕ, List, [], map, take, replicate, ℤ, pos, Ok, Err, Result}
 use Rattle.stage.specs.Stage.{zeros, silent}
 use Rattle.cordic.specs.Outcome.{Out, went, stopped, mapped}
-use Rattle.network.specs.Faults.{reported}
 use Rattle.network.specs.Plan.{LayerOf, plan_of}
 use Rattle.network.specs.Run.{Feed, recurrence, outputs}
 use Rattle.network.specs.Sample.{recorded}
 use Rattle.network.specs.declared.faults.NetworkFault.{NetworkFault}
 use Rattle.network.specs.declared.sample.SampleRecord.{SampleRecord}
 use Rattle.neuron.specs.Input.{samples_of}
-use Rattle.neuron.specs.declared.refusal.Place.{Place}
-use Rattle.neuron.specs.declared.refusal.Place.TheVariants.{Plan, Input}
 use Rattle.neuron.specs.declared.refusal.Refusal.{Refusal}
+use Rattle.neuron.specs.declared.refusal.Refusal.TheVariants.{Run, Input}
 
 -- outputs and steps, or a refusal
 pub data Verdict : Type 0 where
   puts : List ℤ → ℕ → Verdict
   refuses : Refusal → Verdict
-
-abbrev pub in_plan : Option ℕ → Option Place
-in_plan (Some p) = Some (Plan p)
-in_plan None = None
-
--- what is told of a fault of the run: a record is one of the plan
-abbrev pub line_of : NetworkFault → Refusal
-line_of f = record { number = (reported f).number; layer = (reported f).layer; neuron = (reported f).neuron; input = (reported f).input; place = in_plan (reported f).«record» }
-
--- a broken record of standard input is 4
-abbrev pub broken_input : ℕ → Refusal
-broken_input p = record { number = 4; layer = None; neuron = None; input = None; place = Some (Input p) }
 
 -- the run has the 64 places of a widest layer, and a parallel stage that holds zeros
 abbrev pub feed : List ℕ → List SampleRecord → Feed
@@ -42,15 +28,15 @@ feed plan ss = record {
 
 abbrev pub ended : Out (List ℤ) NetworkFault → Verdict
 ended (went ys n s) = puts ys n
-ended (stopped why n s) = refuses (line_of why)
+ended (stopped why n s) = refuses (Run why)
 
 abbrev pub on_samples : List ℕ → Result (List SampleRecord) ℕ → Verdict
 on_samples plan (Ok ss) = ended (mapped outputs (recurrence (feed plan ss)))
-on_samples plan (Err p) = refuses (broken_input p)
+on_samples plan (Err p) = refuses (Input (record { position = p }))
 
 abbrev pub on_plan : List ℕ → List ℕ → Result (List LayerOf) NetworkFault → Verdict
 on_plan plan input (Ok hs) = on_samples plan (samples_of (take 520 input))
-on_plan plan input (Err why) = refuses (line_of why)
+on_plan plan input (Err why) = refuses (Run why)
 
 unfoldable pub verdict : List ℕ → List ℕ → Verdict
 verdict plan input = on_plan plan input (plan_of plan)

@@ -1,12 +1,11 @@
 // The program `neuron`: runs the plan in `plan.bin` on the sample records of standard input.
 #![tactic(auto)]
 
-mod fields;
 mod input;
 mod outputs;
+mod place;
 mod printout;
 mod refusal;
-mod samples;
 #[cfg(test)]
 mod tests;
 mod verdict;
@@ -17,10 +16,8 @@ use std::fs::File;
 use std::io;
 use std::io::{ErrorKind, Read};
 
-// One byte more than the longest plan, and the bytes of 65 records.
+// One byte more than the longest plan.
 const PLAN_LIMIT: u64 = 65529;
-
-const INPUT_LIMIT: u64 = 520;
 
 // The first bytes of `plan.bin`; none where there is no such file.
 fn plan_bytes(rt: &HostRuntime, heap: Global) -> io::Result<Vec<u8>> {
@@ -38,7 +35,9 @@ fn run(rt: &HostRuntime) -> io::Result<()> {
     let heap = rt.alloc();
     let plan = plan_bytes(rt, heap)?;
     let mut input = Vec::new(heap);
-    rt.stdin().take(INPUT_LIMIT).read_to_end(&mut input)?;
+    rt.stdin()
+        .take(input::LIMIT as u64)
+        .read_to_end(&mut input)?;
     let text = printout(heap, plan.as_slice(), input.as_slice())?;
     rt.print(text.as_str())
 }

@@ -1,51 +1,57 @@
-// What the program prints of a refusal.
-ghost use Rattle.std.specs.Prelude.{◌≡◌};
-ghost use Rattle.neuron.specs.Verdict.{line_of, broken_input};
+// Why the program refuses, and the text that says so.
+ghost use Rattle.std.specs.Prelude.{◌≡◌, Some};
+ghost use Rattle.neuron.specs.Refusals.{refusal_text};
+ghost use Rattle.neuron.specs.declared.refusal.Refusal.TheVariants.{Run, Input};
 
+use super::input::BrokenRecord;
+use super::place::Place;
+use fields::Field;
 use network::NetworkFault;
-
-// A record of the plan or of standard input, by its position from 0.
-#[derive(Clone, Copy, PartialEq, Eq, Debug)]
-pub enum Place {
-    Plan(u32),
-    Input(u32),
-}
+use std::fmt;
 
 #[derive(Clone, Copy, PartialEq, Eq, Debug)]
-pub struct Refusal {
-    pub number: u8,
-    pub layer: Option<u32>,
-    pub neuron: Option<u32>,
-    pub input: Option<u32>,
-    pub place: Option<Place>,
+pub enum Refusal {
+    // of the plan or of the run
+    Run(NetworkFault),
+    // of standard input
+    Input(BrokenRecord),
 }
 
-impl Refusal {
-    pub(crate) fn of_run(fault: NetworkFault) -> Refusal
-        ensures answer { result ≡ line_of fault }
-    {
-        let report = fault.report();
-        Refusal {
-            number: report.number,
-            layer: report.layer,
-            neuron: report.neuron,
-            input: report.input,
-            place: match report.record {
-                Some(position) => Some(Place::Plan(position)),
-                None => None,
-            },
-        }
+// (The kit's derive of `From` has no `from_gives`, which the contract of `decide` needs.)
+impl From<NetworkFault> for Refusal {
+    ghost from_gives = { λ fault refusal. refusal ≡ Run fault };
+
+    fn from(fault: NetworkFault) -> Refusal {
+        Refusal::Run(fault)
     }
+}
 
-    pub(crate) fn of_input(position: u32) -> Refusal
-        ensures answer { result ≡ broken_input position }
-    {
-        Refusal {
-            number: 4,
-            layer: None,
-            neuron: None,
-            input: None,
-            place: Some(Place::Input(position)),
+impl From<BrokenRecord> for Refusal {
+    ghost from_gives = { λ broken refusal. refusal ≡ Input broken };
+
+    fn from(broken: BrokenRecord) -> Refusal {
+        Refusal::Input(broken)
+    }
+}
+
+impl fmt::Display for Refusal {
+    ghost output = { λ refusal. Some (refusal_text refusal) };
+
+    fn fmt<W: fmt::Write>(&self, f: &mut fmt::Formatter<W>) -> fmt::Result {
+        match self {
+            Refusal::Run(fault) => {
+                let report = fault.report();
+                let number = report.number;
+                let layer = Field(report.layer);
+                let neuron = Field(report.neuron);
+                let input = Field(report.input);
+                let place = Field(report.record.map(Place::Plan));
+                write!(f, "refused {number} {layer} {neuron} {input} {place}")
+            }
+            Refusal::Input(broken) => {
+                let place = Place::Input(broken.position);
+                write!(f, "refused 4 - - - {place}")
+            }
         }
     }
 }

@@ -1,11 +1,12 @@
 // The decision of the program: outputs or a refusal, from the bytes that it read.
-ghost use Rattle.std.specs.Prelude.{◌≡◌, ◌≤◌};
+ghost use Rattle.std.specs.Prelude.{◌≡◌};
 ghost use Rattle.neuron.specs.Verdict.{verdict};
 ghost use Rattle.neuron.specs.Told.{told};
 
 use super::input::read_samples;
 use super::outputs::Outputs;
 use super::refusal::Refusal;
+use arrayvec::ArrayVec;
 use cordic::Idle;
 use network::{Plan, Ran, run};
 use stage::Parallel;
@@ -14,13 +15,9 @@ use stage::Parallel;
 pub(crate) fn decide(plan: &[u8], input: &[u8]) -> Result<Outputs, Refusal>
     ensures answer { told result ≡ verdict plan.now input.now }
 {
-    if let Err(fault) = Plan::decode(plan) {
-        return Err(Refusal::of_run(fault));
-    }
-    let samples = match read_samples(input) {
-        Ok(samples) => samples,
-        Err(position) => return Err(Refusal::of_input(position)),
-    };
+    Plan::decode(plan)?;
+    let samples = read_samples(input)?;
+    // lent as places, all of them in use
     let mut places = [0i32; 64];
     let Ran {
         unit,
@@ -34,12 +31,8 @@ pub(crate) fn decide(plan: &[u8], input: &[u8]) -> Result<Outputs, Refusal>
         &mut places,
     );
     unit.into_stage();
-    match outcome {
-        Ok(count) => Ok(Outputs {
-            places,
-            count,
-            steps,
-        }),
-        Err(fault) => Err(Refusal::of_run(fault)),
-    }
+    let count = outcome?;
+    let mut values = ArrayVec::from(places);
+    values.truncate(count);
+    Ok(Outputs { values, steps })
 }

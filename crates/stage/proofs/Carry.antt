@@ -1,5 +1,5 @@
 -- A sum made digit by digit with a saved carry, over the digit's size k.
-use Rattle.std.proofs.Common.{◌≡◌, ℕ, suc, ◌+◌, ◌-◌, ◌*◌, ◌/◌, ◌%◌, ◌^◌, ◌<◌, ◌≤◌, Bool, true, false, sym, ap, ◌∙◌, subst, mul-le-mul_right, mod-lt, add_comm, div-add-mod', zero-mul, arith, pow_pos, pow-add, shr-shr}
+use Rattle.std.proofs.Common.{◌≡◌, ℕ, suc, ◌+◌, ◌-◌, ◌*◌, ◌/◌, ◌%◌, ◌^◌, ◌<◌, ◌≤◌, Bool, true, false, cond, sym, ap, ◌∙◌, subst, mul-le-mul_right, mod-lt, add_comm, div-add-mod', zero-mul, arith, pow_pos, pow-add, shr-shr}
 use lib.Arith.{digits_mod, digits_lt}
 use lib.Bits.{bit_and, bit_or}
 use lib.Pow.{mod-pow-add, mod-mod-pow}
@@ -70,6 +70,11 @@ sum_more a f n first p word carry k s =
 carry_is : (a : ℕ) (f : Bool) (n first p word carry : ℕ) → Sum a f n first p word carry → carry ≡ (a % 2 ^ p + low f n p + first) / 2 ^ p
 carry_is a f n first p word carry s = sym (ap (λ m. m / 2 ^ p) (omega (arith, s.total)) ∙ div-mul-add carry (2 ^ p) word s.below)
 
+-- the first carry is 1 or none
+pub first_fits : (f : Bool) → cond f 1 0 ≤ 1
+first_fits true = omega arith
+first_fits false = omega arith
+
 pub carry_one : (a : ℕ) (f : Bool) (n first p word carry : ℕ) → first ≤ 1 → Sum a f n first p word carry → carry ≤ 1
 carry_one a f n first p word carry h s =
     let l : a % 2 ^ p + low f n p + first < 2 * 2 ^ p = omega (arith, mod-lt a (pow_pos p), low_below f n p) in
@@ -114,15 +119,15 @@ put : (d p j word : ℕ) → d < 2 ^ j → j + p ≤ 32 → word < 2 ^ p → bit
 put d p j word h k l = ap (bit_or word) (shl_whole d j p 32 h k) ∙ or_comm word (d * 2 ^ p) ∙ or_shifted d p word l
 
 -- one tick, in the code's own terms
-pub ticks_on : (a : ℕ) (f : Bool) (w s amount first k n i word carry into P Q : ℕ) (A : Added) → Digits k n → i < n → amount ≡ s
+pub ticks_on : (a : ℕ) (f : Bool) (w s first k n i word carry into P Q : ℕ) (A : Added) → Digits k n → i < n
     → State a f (w / 2 ^ s) first (i * k) word carry into
-    → P ≡ a / 2 ^ (i * k) % 2 ^ k → Q ≡ digit_of f w (i * k + amount) k → A ≡ digit_sum k P Q carry
+    → P ≡ a / 2 ^ (i * k) % 2 ^ k → Q ≡ digit_of f w (i * k + s) k → A ≡ digit_sum k P Q carry
     → State a f (w / 2 ^ s) first ((i + 1) * k) (bit_or word ((A.digit * 2 ^ (i * k)) % 2 ^ 32)) A.carry A.into
-ticks_on a f w s amount first k n i word carry into P Q A d h es st eP eQ eA =
+ticks_on a f w s first k n i word carry into P Q A d h st eP eQ eA =
     let r : k + i * k ≤ 32 = omega (arith, room k n i d h) in
     let x : (i + 1) * k ≡ k + i * k = omega arith in
     let l : A.digit < 2 ^ k = rw eA (mod-lt (P + Q + carry) (pow_pos k)) in
-    let q : Q ≡ digit_of f (w / 2 ^ s) (i * k) k = eQ ∙ rw es (digit_shift f w (i * k) s k) in
+    let q : Q ≡ digit_of f (w / 2 ^ s) (i * k) k = eQ ∙ digit_shift f w (i * k) s k in
     rw (x, put A.digit (i * k) k word l r st.sum.below) (state_more a f (w / 2 ^ s) first (i * k) word carry into k P Q A d.some st eP q eA)
 
 -- one bit more of an operand's digit

@@ -1,6 +1,5 @@
 -- What a recorder noted can be read back, so its rule makes of the notes what the recorder does.
-use Rattle.std.proofs.Common.{◌≡◌, ℕ, ◌+◌, ◌<◌, ◌≤◌, List, [], ◌∷◌, ◌++◌, length, take, set, ℤ, Some, None, Ok, Option, refl, ap, ◌∙◌, arith}
-use Rattle.std.proofs.lemmas.List.{take_more_set, length-take-le}
+use Rattle.std.proofs.Common.{◌≡◌, ◌<◌, ◌≤◌, List, [], ◌∷◌, ◌++◌, length, ℤ, Some, None, Ok, Option, refl, ap}
 use Rattle.std.proofs.lemmas.Bool.{lt-ltb, le-ltb}
 use Rattle.stage.specs.Step.{turned, escaped, judged, stepped}
 use Rattle.stage.specs.Stage.{loads, Rule, answered, held_after, noted_after}
@@ -40,13 +39,8 @@ pub records_load : (rule : Rule) (new t : Triple) (ts kept : List Triple) (below
 records_load rule new t ts kept below after e f = rw (e, f, below_back ts below)
 
 -- a log with room takes one triple more, a full one none
-pub pushes : (kept : List Triple) (used : ℕ) (t : Triple) → length kept ≡ 64 → used < 64 → take (used + 1) (set kept used t) ≡ appended (take used kept) t
-pushes kept used t l h =
-    let k : used < length kept = omega arith in
-    let m : length (take used kept) < 64 = rw (length-take-le used kept (omega arith)) h in
-    take_more_set kept used t k ∙ rw (lt-ltb _ _ m)
+pub appends : (ts : List Triple) (t : Triple) → length ts < 64 → ts ++ t ∷ [] ≡ appended ts t
+appends ts t h = rw (lt-ltb _ _ h)
 
-pub stays_full : (kept : List Triple) (used : ℕ) (t : Triple) → length kept ≡ 64 → used ≤ 64 → 64 ≤ used → take used kept ≡ appended (take used kept) t
-stays_full kept used t l h k =
-    let m : 64 ≤ length (take used kept) = rw (length-take-le used kept (omega arith)) k in
-    rw (le-ltb _ _ m)
+pub stays_full : (ts : List Triple) (t : Triple) → 64 ≤ length ts → ts ≡ appended ts t
+stays_full ts t h = rw (le-ltb _ _ h)

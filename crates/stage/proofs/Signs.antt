@@ -1,5 +1,5 @@
 -- From bits to numbers with a sign: the saved sign bit, the complement, and where a sum leaves the word.
-use Rattle.std.proofs.Common.{◌≡◌, ℕ, suc, ◌+◌, ◌-◌, ◌*◌, ◌/◌, ◌%◌, ◌^◌, ◌<◌, ◌≤◌, Bool, true, false, ltb, ◌≢◌, ◌⊎◌, ℤ, pos, negsuc, ◌+ℤ◌, ◌-ℤ◌, Some, None, sym, refl, ap, ◌∙◌, subst, inl, inr, ⊎_elim, mod-lt, mod-eq_of_lt, div-add-mod', arith, lit<, pow_pos, pow-add, shr-shr, shr_lt, w32, w64, SFits, to_z, of_z, ltb-false, ltb-true}
+use Rattle.std.proofs.Common.{◌≡◌, ℕ, suc, ◌+◌, ◌-◌, ◌*◌, ◌/◌, ◌%◌, ◌^◌, ◌<◌, ◌≤◌, Bool, true, false, cond, ltb, ◌≢◌, ◌⊎◌, ℤ, pos, negsuc, ◌+ℤ◌, ◌-ℤ◌, Some, None, sym, refl, ap, ◌∙◌, subst, inl, inr, ⊎_elim, mod-lt, mod-eq_of_lt, div-add-mod', arith, lit<, pow_pos, pow-add, shr-shr, shr_lt, w32, w64, SFits, to_z, of_z, ltb-false, ltb-true}
 use native.Mathlib.Decide.{dec_lt}
 use native.Mathlib.Nat.{zero-div}
 use lib.Arith.{digits_div}
@@ -8,8 +8,12 @@ use mir.Val.{sel}
 use borrow.Author.Differences.{up, down, sum_is_lem, same_in, true_is_le, false_is_le}
 use Rattle.std.proofs.lemmas.Int.{ints, to_z_pos, to_z-of_z}
 use Rattle.stage.specs.Word.{shifted, is_word, in_word}
+use Rattle.stage.specs.Step.{signed}
+use Rattle.stage.specs.Direction.{is_negative}
 use Rattle.stage.specs.Adder.{complemented, wide}
-use Rattle.stage.proofs.Carry.{low, State, low_below, low_more}
+use Rattle.stage.specs.declared.step.Direction.{Direction}
+use Rattle.stage.specs.declared.step.Direction.TheVariants.{Plus, Minus}
+use Rattle.stage.proofs.Carry.{low, State, first_fits, low_below, low_more}
 
 -- 32 bits read with a sign are n, less 2^32 if the top bit is set
 read_by : (n : ℕ) (t : Bool) → ltb n (2 ^ 31) ≡ t → n < 2 ^ 32
@@ -144,10 +148,10 @@ module _ (a : ℕ) (f : Bool) (v : ℤ) (s first p word carry into : ℕ) (h : a
   exact_is : exact a (low f (of_z w64 v / 2 ^ s) 32) first ≡ to_z w32 a +ℤ complemented f (shifted v s) +ℤ pos first
   exact_is = ap (λ z. to_z w32 a +ℤ z +ℤ pos first) (complement_bits f (of_z w64 v / 2 ^ s) ∙ ap (complemented f) (shift_bits v s g k))
 
-  pub adds_in : into ≡ carry → Some (to_z w32 word) ≡ in_word (to_z w32 a +ℤ complemented f (shifted v s) +ℤ pos first)
+  adds_in : into ≡ carry → Some (to_z w32 word) ≡ in_word (to_z w32 a +ℤ complemented f (shifted v s) +ℤ pos first)
   adds_in e = sum_fits left_over e ∙ ap in_word exact_is
 
-  pub adds_out : into ≢ carry → None ≡ in_word (to_z w32 a +ℤ complemented f (shifted v s) +ℤ pos first)
+  adds_out : into ≢ carry → None ≡ in_word (to_z w32 a +ℤ complemented f (shifted v s) +ℤ pos first)
   adds_out e = sum_leaves left_over e ∙ ap in_word exact_is
 
 -- the places above the word hold its sign bit
@@ -191,6 +195,19 @@ bit_high n p h k l =
     high_by (n / 2 ^ 31) (p - 32) (omega arith) (omega arith) ∙ ap (λ v. v % 2) (sym (ap (λ v. v / 2 ^ (p - 32)) d) ∙ s)
 
 -- to subtract is to add the complement and 1
-pub taken : (a v : ℤ) → a +ℤ complemented true v +ℤ pos 1 ≡ a -ℤ v
+taken : (a v : ℤ) → a +ℤ complemented true v +ℤ pos 1 ≡ a -ℤ v
 taken a (pos n) = omega (arith, ints)
 taken a (negsuc n) = omega (arith, ints)
+
+directed : (d : Direction) (a v : ℤ) → a +ℤ complemented (is_negative d) v +ℤ pos (cond (is_negative d) 1 0) ≡ a +ℤ signed d v
+directed Plus a v = omega (arith, ints)
+directed Minus a v = taken a v ∙ omega (arith, ints)
+
+-- the adder's sum of a word and a shifted word, or their difference
+module _ (d : Direction) (a : ℕ) (v : ℤ) (s p word carry into : ℕ) (h : a < 2 ^ 32) (g : SFits w32 v) (k : s ≤ 31) (ep : p ≡ 32)
+    (st : State a (is_negative d) (of_z w64 v / 2 ^ s) (cond (is_negative d) 1 0) p word carry into) where
+  pub sums_in : into ≡ carry → Some (to_z w32 word) ≡ in_word (to_z w32 a +ℤ signed d (shifted v s))
+  sums_in e = adds_in a (is_negative d) v s _ p word carry into h (first_fits (is_negative d)) g k ep st e ∙ ap in_word (directed d (to_z w32 a) (shifted v s))
+
+  pub sums_out : into ≢ carry → None ≡ in_word (to_z w32 a +ℤ signed d (shifted v s))
+  sums_out e = adds_out a (is_negative d) v s _ p word carry into h (first_fits (is_negative d)) g k ep st e ∙ ap in_word (directed d (to_z w32 a) (shifted v s))

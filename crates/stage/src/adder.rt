@@ -1,12 +1,14 @@
 // The serial adder: K bits in a tick, N ticks in a word, the low digit first. Each digit hands its carry to the next.
-ghost use Rattle.std.specs.Prelude.{◌≡◌, ◌+◌, ◌/◌, ◌%◌, ◌^◌, ◌<◌, ◌≤◌, pos, ◌+ℤ◌};
+ghost use Rattle.std.specs.Prelude.{◌≡◌, ◌+◌, ◌/◌, ◌%◌, ◌^◌, ◌<◌, ◌≤◌, ◌+ℤ◌};
 ghost use Rattle.std.proofs.Common.{to_z};
 ghost use Rattle.std.specs.Int.{w32};
 ghost use Rattle.stage.specs.Word.{shifted, in_word};
-ghost use Rattle.stage.specs.Adder.{Digits, complemented, wide, digit_of, digit_sum};
+ghost use Rattle.stage.specs.Step.{signed};
+ghost use Rattle.stage.specs.Adder.{Digits, wide, digit_of, digit_sum};
 
-use super::operand::Operand;
+use super::bits::Bits;
 use super::shift::Shift;
+use super::step::Direction;
 
 // What one digit comes to: its sum, the carry out of it, and the carry into its top place.
 #[derive(Clone, Copy)]
@@ -24,8 +26,8 @@ fn digit<const K: u32>(word: u32, place: u32) -> u32
     (word >> place) & ((1 << K) - 1)
 }
 
-// The operand's digit that begins at a place, or its complement.
-fn operand_digit<const K: u32>(b: Operand, place: u32, complement: bool) -> u32
+// The operand's digit that begins at a place, or its complement. (A bool, since it is a wire of the adder, told once for all digits.)
+fn operand_digit<const K: u32>(b: Bits, place: u32, complement: bool) -> u32
     requires { (K < 31) × (place + K ≤ 64) }
     ensures answer { result ≡ digit_of complement (wide b.bits) place K }
 {
@@ -49,25 +51,25 @@ fn add_digit<const K: u32>(p: u32, q: u32, carry: u32) -> Added
     }
 }
 
-// The word a, the operand shifted or the complement of that, and the first carry, if their sum is a word. It is none where the
-// carry into the top place differs from the carry out of it.
+// The word a and the operand shifted, or less it, if that is a word; a subtraction adds the complement with a first carry of 1.
+// It is none where the carry into the top place differs from the carry out of it.
 pub(crate) fn add_serially<const K: u32, const N: u32>(
     a: u32,
-    b: Operand,
+    b: Bits,
     s: Shift,
-    complement: bool,
-    first: u32,
+    d: Direction,
 ) -> Option<i32>
-    requires { (Digits K N) × (first ≤ 1) }
-    ensures answer { result ≡ in_word (to_z w32 a +ℤ complemented complement (shifted (to_z w32 b.bits) s.amount) +ℤ pos first) }
+    requires { Digits K N }
+    ensures answer { result ≡ in_word (to_z w32 a +ℤ signed d (shifted (to_z w32 b.bits) s.amount)) }
 {
+    let complement = d.is_minus();
     let mut word = 0;
-    let mut carry = first;
+    let mut carry = u32::from(complement);
     let mut into = 0;
     for i in 0..N {
         let place = i * K;
         let p = digit::<K>(a, place);
-        let q = operand_digit::<K>(b, place + s.amount(), complement);
+        let q = operand_digit::<K>(b, place + s.amount, complement);
         let added = add_digit::<K>(p, q, carry);
         word |= added.digit << place;
         carry = added.carry;

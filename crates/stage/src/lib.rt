@@ -2,23 +2,24 @@
 #![tactic(auto)]
 
 mod adder;
-mod bit_serial;
 mod bits;
-mod log;
-mod operand;
+mod cell;
+mod hardware;
+mod kind;
+mod names;
 mod parallel;
 mod probe;
 mod recorder;
 mod registers;
-mod serial;
-mod settle;
 mod shift;
 mod stage;
 mod step;
 #[cfg(test)]
 mod tests;
 
-pub use bit_serial::BitSerial;
+pub use bits::BitSerial;
+pub use kind::Kind;
+pub use names::UnknownName;
 pub use parallel::Parallel;
 pub use probe::Probe;
 pub use recorder::Recorder;

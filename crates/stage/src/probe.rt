@@ -79,7 +79,7 @@ impl<S> Probe<S> {
 impl<S: Stage> Stage for Probe<S> {
     const TICKS: u32 = S::TICKS;
 
-    ghost ticks = { S.Stage.ticks };
+    ghost TICKS = { S.Stage.TICKS };
 
     ghost triple = { λ p. S.Stage.triple p.below };
 
@@ -88,10 +88,6 @@ impl<S: Stage> Stage for Probe<S> {
     ghost rule = { probe_rule S.Stage.rule };
 
     ghost ticking = { Prim.search rules };
-
-    fn step_ticks() -> u32 {
-        S::step_ticks()
-    }
 
     fn load(&mut self, t: Triple) {
         self.below.load(t);

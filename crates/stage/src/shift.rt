@@ -1,13 +1,15 @@
 // A shift amount: 0 to 31, whoever made it.
 ghost use Rattle.std.specs.Prelude.{◌≡◌, ◌%◌, ◌<◌, ◌≤◌, min, MatchOption};
 
-#[derive(Clone, Copy)]
+#[derive(Clone, Copy, PartialEq, Eq, Debug)]
 pub struct Shift {
-    amount: u32,
-    ghost within: { amount ≤ 31 },
+    pub amount: u32,
+    pub ghost within: { amount ≤ 31 },
 }
 
 impl Shift {
+    pub const NONE: Shift = Shift { amount: 0 };
+
     // The shift of this amount, or none where a word has no such place.
     pub fn new(amount: u32) -> Option<Shift>
         ensures answer { MatchOption result (31 < amount) (λ s. s.amount ≡ amount) }
@@ -34,12 +36,6 @@ impl Shift {
         Shift {
             amount: amount % 32,
         }
-    }
-
-    pub(crate) fn none() -> Shift
-        ensures answer { result.amount ≡ 0 }
-    {
-        Shift { amount: 0 }
     }
 
     pub fn amount(self) -> u32

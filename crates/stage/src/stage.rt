@@ -1,5 +1,5 @@
 // A stage is three calls: load, step and read. Its meaning is a triple of registers and notes.
-ghost use Rattle.std.specs.Prelude.{◌≡◌, ℕ, ◌≤◌, List, ℤ};
+ghost use Rattle.std.specs.Prelude.{◌≡◌, ℕ, ◌*◌, ◌≤◌, List, ℤ};
 ghost use Rattle.stage.specs.Stage.{loads, Rule, answered, held_after, noted_after};
 ghost use Rattle.stage.specs.Step.{stepped};
 ghost use Rattle.stage.specs.declared.registers.Triple.{Triple};
@@ -11,8 +11,7 @@ pub trait Stage {
     // Ticks in one step, a constant of the kind.
     const TICKS: u32;
 
-    // the same number, for clauses: a clause cannot name a constant of a trait
-    ghost ticks: { ℕ };
+    ghost TICKS: { ℕ };
 
     // the registers that it holds
     ghost triple: { Self → Triple };
@@ -22,10 +21,6 @@ pub trait Stage {
 
     // what a load or an accepted step makes of the notes
     ghost rule: { Rule };
-
-    // Ticks in one step, as `TICKS` has them.
-    fn step_ticks() -> u32
-        ensures answer { result ≡ ticks };
 
     // Replaces the triple.
     fn load(&mut self, t: Triple)
@@ -42,5 +37,12 @@ pub trait Stage {
     fn read(&self) -> Triple
         ensures answer { result ≡ triple self.now };
 
-    ghost ticking: { 1 ≤ ticks };
+    // Ticks in this many steps.
+    final fn ticks_in(steps: u32) -> u64
+        ensures answer { result ≡ steps * TICKS }
+    {
+        u64::from(steps) * u64::from(Self::TICKS)
+    }
+
+    ghost ticking: { 1 ≤ TICKS };
 }

@@ -1,5 +1,5 @@
 // The kinds of stage on steps worked by hand.
-use super::bit_serial::BitSerial;
+use super::bits::BitSerial;
 use super::parallel::Parallel;
 use super::probe::Probe;
 use super::recorder::Recorder;

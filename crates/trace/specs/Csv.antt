@@ -7,6 +7,7 @@ use Rattle.std.specs.Fmt.{signed_decimal}
 use Rattle.stage.specs.declared.registers.Triple.{Triple}
 use Rattle.stage.specs.declared.step.Direction.{Direction}
 use Rattle.stage.specs.declared.step.Direction.TheVariants.{Plus, Minus}
+use Rattle.cordic.specs.Faults.{reported}
 use Rattle.trace.specs.declared.csv.Line.{Line}
 use Rattle.trace.specs.declared.csv.Line.TheVariants.{Start, Step, End, Refused}
 
@@ -23,4 +24,4 @@ line_text (Start t) = codes "start,,,," ++ fields_text (Some t)
 line_text (Step s t) =
     decimal s.number ++ (codes "," ++ (decimal s.shift ++ (codes "," ++ (decimal s.entry ++ (codes "," ++ (factor_text s.direction ++ (codes "," ++ fields_text (Some t))))))))
 line_text (End t) = codes "result,,,," ++ fields_text (Some t)
-line_text (Refused number kept) = codes "refused " ++ (decimal number ++ (codes ",,,," ++ fields_text kept))
+line_text (Refused fault) = codes "refused " ++ (decimal (reported fault).number ++ (codes ",,,," ++ fields_text (reported fault).kept))

@@ -1,5 +1,4 @@
--- From the names up to the reading of a request, and what is printed.
-pub mod Names
+-- From a printed value up to the reading of a request, and what is printed.
 pub mod Figures
 pub mod Request
 pub mod Reader

@@ -1,8 +1,7 @@
 -- The fixed texts of the printout.
---   mark_label    what stands left of a triple that no step made
---   sign_code     the character of a direction
---   sentence_of   what the number of a refusal means
-use Rattle.std.specs.Prelude.{ℕ, cond, List, [], codes, ◌==◌}
+--   mark_label   what stands left of a triple that no step made
+--   sign_code    the character of a direction
+use Rattle.std.specs.Prelude.{ℕ, List, [], codes}
 use Rattle.stage.specs.declared.step.Direction.{Direction}
 use Rattle.stage.specs.declared.step.Direction.TheVariants.{Plus, Minus}
 use Rattle.trace.specs.declared.report.Mark.{Mark}
@@ -11,7 +10,7 @@ use Rattle.trace.specs.declared.report.Mark.TheVariants.{Blank, Start, Step, End
 abbrev pub mark_label : Mark → List ℕ
 mark_label Blank = []
 mark_label Start = codes "start"
-mark_label (Step number shift entry direction) = []
+mark_label (Step step) = []
 mark_label End = codes "result"
 mark_label Kept = codes "kept"
 mark_label Before = codes "before"
@@ -19,9 +18,3 @@ mark_label Before = codes "before"
 abbrev pub sign_code : Direction → ℕ
 sign_code Plus = 43
 sign_code Minus = 45
-
-abbrev pub sentence_of : ℕ → List ℕ
-sentence_of n =
-    cond (n == 5) (codes "no choice of directions brings z within one unit of zero")
-    (cond (n == 6) (codes "vectoring cannot start from this x and y")
-    (codes "a register would leave the word"))

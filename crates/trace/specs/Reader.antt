@@ -1,18 +1,21 @@
 -- Reading a request, word by word.
 --   number_in   the word that a decimal writes, if it writes one
+--   ReadBy      a word read as a value of some type
 --   put_in      one of the five words more
 --   taken_in    one word more, an option or one of the five
 --   finished    the request, or the first word that is missing
 --   drafted     all words, up to the first that does not fit
 --   Reads       what the reader answers to the words
-use Rattle.std.specs.Prelude.{◌≡◌, ℕ, Bool, true, false, cond, ◌&&◌, ◌||◌, List, [], ◌∷◌, ℤ, Some, None, Ok, Err, string_bytes, codes, Option, Result, String, ◌==◌, slice_index}
+use Rattle.std.specs.Prelude.{◌≡◌, ℕ, Bool, true, false, cond, ◌||◌, List, [], ◌∷◌, ℤ, Some, None, Ok, Err, string_bytes, codes, Option, Result, String, nat_eq}
 use Rattle.std.specs.Str.Parse.{without_leading_sign, signed_digits_value}
 use Rattle.std.specs.declared.alloc.Global.{Global}
+use Rattle.std.specs.List.{list_any, starts_with}
 use Rattle.std.specs.Str.{all_ascii_digits, bytes_eq}
 use Rattle.stage.specs.Word.{in_word}
-use Rattle.trace.specs.Names.{named, system_names, mode_names, kind_names}
-use Rattle.trace.specs.declared.names.Kind.{Kind}
-use Rattle.trace.specs.declared.names.Kind.TheVariants.{Parallel}
+use Rattle.stage.specs.Names.{named, system_names, kind_names}
+use Rattle.stage.specs.declared.kind.Kind.{Kind}
+use Rattle.stage.specs.declared.kind.Kind.TheVariants.{Parallel}
+use Rattle.cordic.specs.Names.{mode_names}
 use Rattle.trace.specs.declared.request.Request.{Request}
 use Rattle.trace.specs.declared.request.Wanted.{Wanted}
 use Rattle.trace.specs.declared.request.Wanted.TheVariants.{System as ASystem, Mode as AMode, X as AnX, Y as AY, Z as AZ, Kind as AKind, Setting}
@@ -23,8 +26,6 @@ use Rattle.trace.specs.declared.request.RequestFault.TheVariants.{Word, Missing,
 use Rattle.trace.specs.declared.reader.Progress.{Progress}
 use Rattle.trace.specs.declared.reader.Progress.TheVariants.{Empty, ToSystem, ToMode, ToX, ToY, Full}
 use Rattle.trace.specs.declared.reader.Draft.{Draft}
-use Rattle.trace.specs.declared.reader.Token.{Token}
-use Rattle.trace.specs.declared.reader.Token.TheVariants.{Probe, Stage, Unknown, Plain}
 
 -- one digit or more, and nothing else
 abbrev pub numeral : List ℕ → Bool
@@ -39,6 +40,11 @@ abbrev pub or_not : {K P : Type 0} → Wanted → (K → P) → Option K → Res
 or_not wanted f None = Err (Not wanted)
 or_not wanted f (Some k) = Ok (f k)
 
+-- what `parse` gives, and in place of its error what is wanted
+abbrev pub ReadBy : {K E : Type 0} → (List ℕ → Result K E → Type 0) → List ℕ → Wanted → Result K Misfit → Type 0
+ReadBy gives word wanted (Ok k) = gives word (Ok k)
+ReadBy {E = E} gives word wanted (Err m) = (e : E) × gives word (Err e) × (m ≡ Not wanted)
+
 abbrev pub put_in : Progress → List ℕ → Result Progress Misfit
 put_in Empty word = or_not ASystem (λ s. ToSystem s) (named system_names word)
 put_in (ToSystem s) word = or_not AMode (λ m. ToMode s m) (named mode_names word)
@@ -49,7 +55,7 @@ put_in (Full s m t) word = Err Extra
 
 -- two dashes stand first
 abbrev pub dashed : List ℕ → Bool
-dashed word = slice_index word 0 == 45 && slice_index word 1 == 45
+dashed word = starts_with nat_eq word (codes "--")
 
 abbrev pub blank : Draft
 blank = record { progress = Empty; kind = Some Parallel; probe = false }
@@ -62,18 +68,15 @@ abbrev pub advanced : Draft → Result Progress Misfit → Result Draft Misfit
 advanced d (Ok p) = Ok (record { progress = p; kind = d.kind; probe = d.probe })
 advanced d (Err m) = Err m
 
-abbrev pub token_in : List ℕ → Token
-token_in word = cond (bytes_eq word (codes "--probe")) Probe (cond (bytes_eq word (codes "--stage")) Stage (cond (dashed word) Unknown Plain))
-
-abbrev pub taken_by : Draft → List ℕ → Option Kind → Token → Result Draft Misfit
-taken_by d word None token = chosen_in d word
-taken_by d word (Some k) Probe = Ok (record { progress = d.progress; kind = Some k; probe = true })
-taken_by d word (Some k) Stage = Ok (record { progress = d.progress; kind = None; probe = d.probe })
-taken_by d word (Some k) Unknown = Err (Not Setting)
-taken_by d word (Some k) Plain = advanced d (put_in d.progress word)
+abbrev pub taken_by : Draft → List ℕ → Option Kind → Result Draft Misfit
+taken_by d word None = chosen_in d word
+taken_by d word (Some k) =
+    cond (bytes_eq word (codes "--probe")) (Ok (record { progress = d.progress; kind = Some k; probe = true }))
+    (cond (bytes_eq word (codes "--stage")) (Ok (record { progress = d.progress; kind = None; probe = d.probe }))
+    (cond (dashed word) (Err (Not Setting)) (advanced d (put_in d.progress word))))
 
 abbrev pub taken_in : Draft → List ℕ → Result Draft Misfit
-taken_in d word = taken_by d word d.kind (token_in word)
+taken_in d word = taken_by d word d.kind
 
 abbrev pub finished_by : Bool → Option Kind → Progress → Result Request Wanted
 finished_by probe None p = Err AKind
@@ -91,8 +94,7 @@ abbrev pub asks_for_help : List ℕ → Bool
 asks_for_help word = bytes_eq word (codes "--help") || bytes_eq word (codes "-h")
 
 abbrev pub help_in : List (String Global) → Bool
-help_in [] = false
-help_in (word ∷ words) = asks_for_help (string_bytes word) || help_in words
+help_in words = list_any (λ word. asks_for_help (string_bytes word)) words
 
 -- a misfit, and the word that does not fit
 abbrev pub misfit_at : List ℕ → Result Draft Misfit → Result Draft (Misfit × List ℕ)

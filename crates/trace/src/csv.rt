@@ -3,6 +3,7 @@ ghost use Rattle.std.specs.Prelude.{◌≡◌, Some};
 ghost use Rattle.trace.specs.Csv.{factor_text, fields_text, line_text};
 
 use super::accepted::Accepted;
+use cordic::UnitFault;
 use stage::{Direction, Triple};
 use std::{fmt, io};
 
@@ -17,15 +18,13 @@ fn factor(direction: Direction) -> &'static str
 
 // The fields x, y and z, empty where there is no triple.
 #[derive(Clone, Copy)]
-pub struct Fields {
-    triple: Option<Triple>,
-}
+pub struct Fields(Option<Triple>);
 
 impl fmt::Display for Fields {
-    ghost output = { λ s. Some (fields_text s.triple) };
+    ghost output = { λ s. Some (fields_text s.0) };
 
     fn fmt<W: fmt::Write>(&self, f: &mut fmt::Formatter<W>) -> fmt::Result {
-        match self.triple {
+        match self.0 {
             Some(Triple { x, y, z }) => write!(f, "{x},{y},{z}"),
             None => write!(f, ",,"),
         }
@@ -38,8 +37,8 @@ pub enum Line {
     // an accepted step, and the triple after it
     Step(Accepted, Triple),
     End(Triple),
-    // the number, and the triple that is kept where one is
-    Refused(u8, Option<Triple>),
+    // with the triple that is kept, where one is
+    Refused(UnitFault),
 }
 
 impl fmt::Display for Line {
@@ -47,30 +46,20 @@ impl fmt::Display for Line {
 
     fn fmt<W: fmt::Write>(&self, f: &mut fmt::Formatter<W>) -> fmt::Result {
         match *self {
-            Line::Start(t) => {
-                let fields = Fields { triple: Some(t) };
-                write!(f, "start,,,,{fields}")
-            }
-            Line::Step(step, after) => {
-                let Accepted {
-                    number,
-                    shift,
-                    entry,
-                    direction,
-                } = step;
-                let d = factor(direction);
-                let fields = Fields {
-                    triple: Some(after),
-                };
-                write!(f, "{number},{shift},{entry},{d},{fields}")
-            }
-            Line::End(t) => {
-                let fields = Fields { triple: Some(t) };
-                write!(f, "result,,,,{fields}")
-            }
-            Line::Refused(number, kept) => {
-                let fields = Fields { triple: kept };
-                write!(f, "refused {number},,,,{fields}")
+            Line::Start(t) => write!(f, "start,,,,{}", Fields(Some(t))),
+            Line::Step(step, after) => write!(
+                f,
+                "{},{},{},{},{}",
+                step.number,
+                step.shift,
+                step.entry,
+                factor(step.direction),
+                Fields(Some(after))
+            ),
+            Line::End(t) => write!(f, "result,,,,{}", Fields(Some(t))),
+            Line::Refused(fault) => {
+                let report = fault.report();
+                write!(f, "refused {},,,,{}", report.number, Fields(report.kept))
             }
         }
     }

@@ -6,7 +6,7 @@ use std::fmt;
 
 const BILLION: u64 = 1000000000;
 
-// A value with nine places: whole part and billionths.
+// A value with nine places: whole part and billionths. (The sign stands apart, since −0.000000004 has a whole part of 0.)
 #[derive(Clone, Copy)]
 pub struct Fraction {
     negative: bool,
@@ -15,7 +15,7 @@ pub struct Fraction {
 }
 
 impl Fraction {
-    // raw / 2^28, rounded to nearest, ties away from zero.
+    // raw / 2^28, rounded to nearest, ties away from zero. (No `From`, which would be one clause in place of three with names.)
     pub(crate) fn of(raw: i32) -> Fraction
         ensures answer { result.whole * 10 ^ 9 + result.billionths ≡ billionths_of raw }
         ensures places { result.billionths < 10 ^ 9 }

@@ -5,7 +5,6 @@ mod accepted;
 mod csv;
 mod figures;
 mod help;
-mod names;
 mod pass;
 mod reader;
 mod report;
@@ -17,10 +16,10 @@ use help::HELP;
 use pass::print_trace;
 use reader::{asks_help, read_request};
 use request::RequestFault;
-use std::alloc::{AllocError, AllocFailed, Global};
+use std::alloc::Global;
 use std::{env, fmt, io};
 
-// Why the program ends with status 1.
+// Why the program ends with status 1. (By hand, as `cases` has its own: a derive of the two impls would ask for a message of each variant as well.)
 #[derive(Drop)]
 enum Failure {
     Request(RequestFault),
@@ -30,18 +29,6 @@ enum Failure {
 impl From<io::Error> for Failure {
     fn from(e: io::Error) -> Failure {
         Failure::Io(e)
-    }
-}
-
-impl From<AllocError> for Failure {
-    fn from(e: AllocError) -> Failure {
-        Failure::Io(io::Error::from(e))
-    }
-}
-
-impl<T: Drop> From<AllocFailed<T>> for Failure {
-    fn from(e: AllocFailed<T>) -> Failure {
-        Failure::from(AllocError::from(e))
     }
 }
 
@@ -62,15 +49,18 @@ impl fmt::Debug for Failure {
 }
 
 // The arguments, or where there are none the words of the first line of standard input.
-fn words(rt: &HostRuntime, heap: Global) -> Result<Vec<String>, Failure> {
-    let mut words: Vec<String> = env::args(rt)?.skip(1).collect(heap)?;
-    if words.is_empty() {
-        let mut line = String::new(heap);
-        rt.read_line(&mut line)?;
-        for word in line.as_str().split_whitespace() {
-            words.push(String::from_str(heap, word)?)?;
-        }
+fn words(rt: &HostRuntime, heap: Global) -> io::Result<Vec<String>> {
+    let words: Vec<String> = env::args(rt)?.skip(1).collect(heap)?;
+    if !words.is_empty() {
+        return Ok(words);
     }
+    let mut line = String::new(heap);
+    rt.read_line(&mut line)?;
+    let words = line
+        .as_str()
+        .split_whitespace()
+        .map(|word| String::from_str(heap, word))
+        .try_collect(heap)?;
     Ok(words)
 }
 

@@ -1,12 +1,12 @@
 // Reads a request, word by word.
 ghost use Rattle.std.specs.Prelude.{◌≡◌};
-ghost use Rattle.trace.specs.Reader.{number_in, put_in, dashed, token_in, blank, advanced, chosen_in, taken_in, finished, asks_for_help, help_in, Reads};
+ghost use Rattle.trace.specs.Reader.{ReadBy, put_in, blank, advanced, chosen_in, taken_in, finished, help_in, Reads};
 
-use super::names::{Kind, kind_named, mode_named, system_named};
 use super::request::{Misfit, Request, RequestFault, Wanted};
 use cordic::Mode;
-use stage::{System, Triple};
+use stage::{Kind, System, Triple};
 use std::alloc::Global;
+use std::str::FromStr;
 
 // The five words of a request, as far as they have come.
 #[derive(Clone, Copy)]
@@ -19,40 +19,35 @@ enum Progress {
     Full(System, Mode, Triple),
 }
 
-fn number(word: &str) -> Option<i32>
-    ensures answer { result ≡ number_in word.now }
+// The word as a value of this type.
+fn read<T: FromStr>(word: &str, wanted: Wanted) -> Result<T, Misfit>
+where
+    T::Err: Drop,
+    ensures answer { ReadBy T.FromStr.from_str_gives word.now wanted result }
 {
-    word.parse::<i32>().ok()
+    word.parse().map_err(|_| Misfit::Not(wanted))
 }
 
 impl Progress {
     // One word more.
+    #[tactic(auto, using(crate::proofs::Reading::number_unfound))]
     fn put(self, word: &str) -> Result<Progress, Misfit>
         ensures answer { result ≡ put_in self word.now }
     {
-        match self {
-            Progress::Empty => match system_named(word) {
-                Some(system) => Ok(Progress::ToSystem(system)),
-                None => Err(Misfit::Not(Wanted::System)),
-            },
-            Progress::ToSystem(system) => match mode_named(word) {
-                Some(mode) => Ok(Progress::ToMode(system, mode)),
-                None => Err(Misfit::Not(Wanted::Mode)),
-            },
-            Progress::ToMode(system, mode) => match number(word) {
-                Some(x) => Ok(Progress::ToX(system, mode, x)),
-                None => Err(Misfit::Not(Wanted::X)),
-            },
-            Progress::ToX(system, mode, x) => match number(word) {
-                Some(y) => Ok(Progress::ToY(system, mode, x, y)),
-                None => Err(Misfit::Not(Wanted::Y)),
-            },
-            Progress::ToY(system, mode, x, y) => match number(word) {
-                Some(z) => Ok(Progress::Full(system, mode, Triple { x, y, z })),
-                None => Err(Misfit::Not(Wanted::Z)),
-            },
-            Progress::Full(_, _, _) => Err(Misfit::Extra),
-        }
+        Ok(match self {
+            Progress::Empty => Progress::ToSystem(read(word, Wanted::System)?),
+            Progress::ToSystem(system) => Progress::ToMode(system, read(word, Wanted::Mode)?),
+            Progress::ToMode(system, mode) => Progress::ToX(system, mode, read(word, Wanted::X)?),
+            Progress::ToX(system, mode, x) => {
+                let y = read(word, Wanted::Y)?;
+                Progress::ToY(system, mode, x, y)
+            }
+            Progress::ToY(system, mode, x, y) => {
+                let z = read(word, Wanted::Z)?;
+                Progress::Full(system, mode, Triple { x, y, z })
+            }
+            Progress::Full(_, _, _) => return Err(Misfit::Extra),
+        })
     }
 }
 
@@ -62,40 +57,6 @@ struct Draft {
     progress: Progress,
     kind: Option<Kind>,
     probe: bool,
-}
-
-fn is_option(word: &str) -> bool
-    ensures answer { result ≡ dashed word.now }
-{
-    match word.as_bytes() {
-        [first, second, ..] => *first == b'-' && *second == b'-',
-        _ => false,
-    }
-}
-
-// What a word is by itself.
-#[derive(Clone, Copy)]
-enum Token {
-    Probe,
-    Stage,
-    Unknown,
-    Plain,
-}
-
-fn judge(word: &str) -> Token
-    ensures answer { result ≡ token_in word.now }
-{
-    match word {
-        "--probe" => Token::Probe,
-        "--stage" => Token::Stage,
-        _ => {
-            if is_option(word) {
-                Token::Unknown
-            } else {
-                Token::Plain
-            }
-        }
-    }
 }
 
 impl Draft {
@@ -116,46 +77,40 @@ impl Draft {
         if self.kind.is_none() {
             return self.choose(word);
         }
-        match judge(word) {
-            Token::Probe => Ok(Draft {
+        match word {
+            "--probe" => Ok(Draft {
                 probe: true,
                 ..self
             }),
-            Token::Stage => Ok(Draft { kind: None, ..self }),
-            Token::Unknown => Err(Misfit::Not(Wanted::Setting)),
-            Token::Plain => self.put(word),
+            "--stage" => Ok(Draft { kind: None, ..self }),
+            _ if word.starts_with("--") => Err(Misfit::Not(Wanted::Setting)),
+            _ => self.put(word),
         }
     }
 
     fn put(self, word: &str) -> Result<Draft, Misfit>
         ensures answer { result ≡ advanced self (put_in self.progress word.now) }
     {
-        match self.progress.put(word) {
-            Ok(progress) => Ok(Draft { progress, ..self }),
-            Err(misfit) => Err(misfit),
-        }
+        let progress = self.progress.put(word)?;
+        Ok(Draft { progress, ..self })
     }
 
     // The word after `--stage`.
     fn choose(self, word: &str) -> Result<Draft, Misfit>
         ensures answer { result ≡ chosen_in self word.now }
     {
-        match kind_named(word) {
-            Some(kind) => Ok(Draft {
-                kind: Some(kind),
-                ..self
-            }),
-            None => Err(Misfit::Not(Wanted::Kind)),
-        }
+        let kind = read(word, Wanted::Kind)?;
+        Ok(Draft {
+            kind: Some(kind),
+            ..self
+        })
     }
 
     // The request, or the first that is missing.
     fn finish(self) -> Result<Request, Wanted>
         ensures answer { result ≡ finished self }
     {
-        let Some(kind) = self.kind else {
-            return Err(Wanted::Kind);
-        };
+        let kind = self.kind.ok_or(Wanted::Kind)?;
         match self.progress {
             Progress::Empty => Err(Wanted::System),
             Progress::ToSystem(_) => Err(Wanted::Mode),
@@ -173,21 +128,12 @@ impl Draft {
     }
 }
 
-fn is_help(word: &str) -> bool
-    ensures answer { result ≡ asks_for_help word.now }
-{
-    word == "--help" || word == "-h"
-}
-
 pub(crate) fn asks_help(words: &[String]) -> bool
     ensures answer { result ≡ help_in words.now }
 {
-    for word in words {
-        if is_help(word.as_str()) {
-            return true;
-        }
-    }
-    false
+    words
+        .iter()
+        .any(|word| matches!(word.as_str(), "--help" | "-h"))
 }
 
 // The request that the words are, or the first word that is wrong.
@@ -196,6 +142,7 @@ pub(crate) fn read_request(heap: Global, words: &[String]) -> Result<Request, Re
 {
     let mut draft = Draft::new();
     for word in words {
+        // the word's copy can fail, which a closure of `map_err` could not say
         match draft.take(word.as_str()) {
             Ok(further) => draft = further,
             Err(misfit) => {
@@ -204,8 +151,5 @@ pub(crate) fn read_request(heap: Global, words: &[String]) -> Result<Request, Re
             }
         }
     }
-    match draft.finish() {
-        Ok(request) => Ok(request),
-        Err(wanted) => Err(RequestFault::Missing(wanted)),
-    }
+    draft.finish().map_err(RequestFault::Missing)
 }

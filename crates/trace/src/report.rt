@@ -1,11 +1,11 @@
 // The printout: rows of registers under their columns, and how a pass ended.
 ghost use Rattle.std.specs.Prelude.{◌≡◌};
-ghost use Rattle.trace.specs.Marks.{mark_label, sign_code, sentence_of};
+ghost use Rattle.trace.specs.Marks.{mark_label, sign_code};
 
+use super::accepted::Accepted;
 use super::figures::Fraction;
-use super::names::{kind_name, mode_name, register_name, system_name};
 use super::request::Request;
-use cordic::Report;
+use cordic::{Cause, UnitFault};
 use stage::{Direction, Register, Triple};
 use std::{fmt, io};
 
@@ -14,17 +14,13 @@ use std::{fmt, io};
 pub enum Mark {
     Blank,
     Start,
-    Step {
-        number: usize,
-        shift: u32,
-        entry: u32,
-        direction: Direction,
-    },
+    Step(Accepted),
     End,
     Kept,
     Before,
 }
 
+// (A direction is a sign here and a factor in the lines of values, so that neither is its `Display`.)
 fn sign(direction: Direction) -> char
     ensures answer { result ≡ sign_code direction }
 {
@@ -41,7 +37,7 @@ impl Mark {
         match self {
             Mark::Blank => "",
             Mark::Start => "start",
-            Mark::Step { .. } => "",
+            Mark::Step(_) => "",
             Mark::End => "result",
             Mark::Kept => "kept",
             Mark::Before => "before",
@@ -51,26 +47,26 @@ impl Mark {
 
 impl fmt::Display for Mark {
     fn fmt<W: fmt::Write>(&self, f: &mut fmt::Formatter<W>) -> fmt::Result {
-        if let Mark::Step {
-            number,
-            shift,
-            entry,
-            direction,
-        } = *self
-        {
-            let d = sign(direction);
-            return write!(f, "{number:>6}  {shift:>5}  {entry:>9}  {d}  ");
+        match *self {
+            Mark::Step(step) => write!(
+                f,
+                "{:>6}  {:>5}  {:>9}  {}  ",
+                step.number,
+                step.shift,
+                step.entry,
+                sign(step.direction)
+            ),
+            mark => write!(f, "{:<29}", mark.label()),
         }
-        let label = self.label();
-        write!(f, "{label:<29}")
     }
 }
 
 fn print_row(out: &impl Print, mark: Mark, register: Register, raw: i32) -> io::Result<()> {
-    let name = register_name(register);
-    let bits = raw.cast_unsigned();
-    let value = Fraction::of(raw);
-    println!(out; "{mark}{name}  {raw:>11}  {bits:08x}  {value}")
+    println!(out;
+        "{mark}{register}  {raw:>11}  {:08x}  {}",
+        raw.cast_unsigned(),
+        Fraction::of(raw)
+    )
 }
 
 // Three rows, the first of them marked.
@@ -81,11 +77,11 @@ pub(crate) fn print_triple(out: &impl Print, mark: Mark, t: Triple) -> io::Resul
 }
 
 pub(crate) fn print_title(out: &impl Print, request: &Request) -> io::Result<()> {
-    let system = system_name(request.system);
-    let mode = mode_name(request.mode);
-    let kind = kind_name(request.kind);
     let probe = if request.probe { " under a probe" } else { "" };
-    println!(out; "{system} {mode} on the {kind} stage{probe}\n")?;
+    println!(out;
+        "{} {} on the {} stage{probe}\n",
+        request.system, request.mode, request.kind
+    )?;
     println!(out; "  step  shift      entry  d             raw       hex         value")
 }
 
@@ -101,42 +97,17 @@ pub(crate) fn print_result(
     println!(out; "ticks     {ticks}")
 }
 
-fn sentence(number: u8) -> &'static str
-    ensures answer { result.now ≡ sentence_of number }
-{
-    match number {
-        5 => "no choice of directions brings z within one unit of zero",
-        6 => "vectoring cannot start from this x and y",
-        _ => "a register would leave the word",
-    }
-}
-
-// What only an overflow carries.
-fn print_overflow(out: &impl Print, report: Report) -> io::Result<()> {
-    if let Some(step) = report.step {
+pub(crate) fn print_refusal(out: &impl Print, fault: UnitFault) -> io::Result<()> {
+    println!(out; "\nrefused with {}: {}", fault.report().number, fault.cause)?;
+    println!(out; "system    {}", fault.system)?;
+    println!(out; "mode      {}", fault.mode)?;
+    println!(out; "steps     {} accepted before", fault.steps)?;
+    if let Cause::Overflowed { step, overflow } = fault.cause {
         println!(out; "step      {step} refused")?;
-    }
-    if let Some(register) = report.register {
-        let name = register_name(register);
-        println!(out; "register  {name}")?;
-    }
-    if let Some(kept) = report.kept {
-        print_triple(out, Mark::Kept, kept)?;
+        println!(out; "register  {}", overflow.register)?;
+        print_triple(out, Mark::Kept, overflow.kept)?;
     }
     Ok(())
-}
-
-pub(crate) fn print_refusal(out: &impl Print, report: Report) -> io::Result<()> {
-    let number = report.number;
-    let why = sentence(number);
-    println!(out; "\nrefused with {number}: {why}")?;
-    let system = system_name(report.system);
-    println!(out; "system    {system}")?;
-    let mode = mode_name(report.mode);
-    println!(out; "mode      {mode}")?;
-    let steps = report.steps;
-    println!(out; "steps     {steps} accepted before")?;
-    print_overflow(out, report)
 }
 
 pub(crate) fn print_probe(

@@ -1,11 +1,10 @@
 // A request: what to run, and what can be wrong with its words.
-ghost use Rattle.std.specs.Prelude.{◌≡◌};
+ghost use Rattle.std.specs.Prelude.{◌≡◌, Some};
 ghost use Rattle.trace.specs.declared.request.RequestFault.TheVariants.{Memory};
 ghost use Rattle.trace.specs.Request.{wanted_name, wanted_choices};
 
-use super::names::Kind;
 use cordic::Mode;
-use stage::{System, Triple};
+use stage::{Kind, System, Triple};
 use std::alloc::AllocError;
 use std::fmt;
 
@@ -15,6 +14,7 @@ pub struct Request {
     pub mode: Mode,
     pub start: Triple,
     pub kind: Kind,
+    // a setting that is on or off, and goes with no value
     pub probe: bool,
 }
 
@@ -30,11 +30,11 @@ pub enum Wanted {
     Setting,
 }
 
-impl Wanted {
-    fn name(self) -> &'static str
-        ensures answer { result.now ≡ wanted_name self }
-    {
-        match self {
+impl fmt::Display for Wanted {
+    ghost output = { λ wanted. Some (wanted_name wanted) };
+
+    fn fmt<W: fmt::Write>(&self, f: &mut fmt::Formatter<W>) -> fmt::Result {
+        f.write_str(match self {
             Wanted::System => "coordinate system",
             Wanted::Mode => "mode",
             Wanted::X => "number for x",
@@ -42,9 +42,12 @@ impl Wanted {
             Wanted::Z => "number for z",
             Wanted::Kind => "stage",
             Wanted::Setting => "option",
-        }
+        })
     }
+}
 
+impl Wanted {
+    // What it can be. (A method beside the `Display` of its name, since a type has one.)
     fn choices(self) -> &'static str
         ensures answer { result.now ≡ wanted_choices self }
     {
@@ -58,7 +61,7 @@ impl Wanted {
     }
 }
 
-// Why a word does not fit.
+// Why a word does not fit. (An error enum: `None` of an `Option` would have to mean one word too many.)
 #[derive(Clone, Copy)]
 pub enum Misfit {
     Not(Wanted),
@@ -72,6 +75,7 @@ pub enum RequestFault {
     Memory,
 }
 
+// (The kit's derive of `From` has no `from_gives`, which the contract of `read_request` needs.)
 impl From<AllocError> for RequestFault {
     ghost from_gives = { λ _ r. r ≡ Memory };
 
@@ -85,16 +89,12 @@ impl fmt::Display for RequestFault {
         match self {
             RequestFault::Word { word, misfit } => match misfit {
                 Misfit::Not(wanted) => {
-                    let name = wanted.name();
-                    let choices = wanted.choices();
-                    write!(f, "'{word}' is no {name} ({choices})")
+                    write!(f, "'{word}' is no {wanted} ({})", wanted.choices())
                 }
                 Misfit::Extra => write!(f, "'{word}' is one word too many (SYSTEM MODE X Y Z)"),
             },
             RequestFault::Missing(wanted) => {
-                let name = wanted.name();
-                let choices = wanted.choices();
-                write!(f, "no {name} is given ({choices})")
+                write!(f, "no {wanted} is given ({})", wanted.choices())
             }
             RequestFault::Memory => write!(f, "no memory is left"),
         }

@@ -3,7 +3,8 @@ use super::accepted::Accepted;
 use super::csv::Line;
 use super::figures::Fraction;
 use super::reader::read_request;
-use stage::{Direction, Triple};
+use cordic::{Cause, Mode, UnitFault};
+use stage::{Direction, Overflow, Register, System, Triple};
 use std::alloc::Global;
 use std::process::Abort;
 use std::test::Fail;
@@ -28,10 +29,10 @@ fn rounds_to_nine_places(rt: HostRuntime) -> Result<(), Fail> {
 }
 
 fn complains(rt: &impl Abort, heap: Global, line: &str, text: &str) -> Result<(), Fail> {
-    let mut words = Vec::new(heap);
-    for word in line.split_whitespace() {
-        words.push(String::from_str(heap, word)?)?;
-    }
+    let words: Vec<String> = line
+        .split_whitespace()
+        .map(|word| String::from_str(heap, word))
+        .try_collect(heap)?;
     match read_request(heap, words.as_slice()) {
         Ok(_) => Err(Fail::new(line)),
         Err(fault) => {
@@ -84,6 +85,15 @@ fn line_is(rt: &impl Abort, heap: Global, line: Line, text: &str) -> Result<(), 
     Ok(())
 }
 
+fn refused(cause: Cause) -> Line {
+    Line::Refused(UnitFault {
+        system: System::Linear,
+        mode: Mode::Rotation,
+        cause,
+        steps: 0,
+    })
+}
+
 // Seven fields a line: of a step all, of an overflow the kept triple, of a load out of reach none but the first.
 #[test]
 fn writes_lines_of_values(rt: HostRuntime) -> Result<(), Fail> {
@@ -96,6 +106,11 @@ fn writes_lines_of_values(rt: HostRuntime) -> Result<(), Fail> {
         direction: Direction::Minus,
     };
     line_is(&rt, heap, Line::Step(step, t), "4,5,67,-1,1,-2,3")?;
-    line_is(&rt, heap, Line::Refused(7, Some(t)), "refused 7,,,,1,-2,3")?;
-    line_is(&rt, heap, Line::Refused(5, None), "refused 5,,,,,,")
+    let overflow = Overflow {
+        register: Register::Y,
+        kept: t,
+    };
+    let overflowed = Cause::Overflowed { step: 1, overflow };
+    line_is(&rt, heap, refused(overflowed), "refused 7,,,,1,-2,3")?;
+    line_is(&rt, heap, refused(Cause::Unreachable), "refused 5,,,,,,")
 }

@@ -4,16 +4,10 @@ use Rattle.capi.proofs.plans.cordic_check_plan.Goals as goal
 
 pub overflow_cast-report : goal.overflow_cast-report
 overflow_cast-report c =
-    let a = c.in-Ok.ensures.answer in
-    let h = entrance_few c.args.plan.now _ a.1 in
-    let e = c.inputs.ensures.answer in
-    let i = a.2 in
-    omega arith
+    let found = c.in-Ok.ensures.answer in
+    omega (arith, entrance_few c.args.plan.now found.1, found.2, c.inputs.ensures.answer)
 
 pub overflow_cast-report-in-Ok : goal.overflow_cast-report-in-Ok
 overflow_cast-report-in-Ok c =
-    let a = c.in-Ok.ensures.answer in
-    let h = exits_few c.args.plan.now _ a.1 in
-    let e = c.outputs.ensures.answer in
-    let i = a.3 in
-    omega arith
+    let found = c.in-Ok.ensures.answer in
+    omega (arith, exits_few c.args.plan.now found.1, found.3, c.outputs.ensures.answer)

@@ -1,7 +1,7 @@
-use Rattle.std.proofs.Common.{map, sym, ◌∙◌, arith}
+use Rattle.std.proofs.Common.{map, sym, refl, ◌∙◌, arith}
 use Rattle.std.proofs.lemmas.List.{length-map}
 use Rattle.std.proofs.lemmas.Result.{err_from_is_err_and}
-use Rattle.network.proofs.Admitting.{entrance_narrow, bad_plan, few_places, bad_count, no_sample, all_pass}
+use Rattle.network.proofs.Admitting.{entrance_narrow, bad_plan, few_places, bad_count, gathers_all}
 use Rattle.network.specs.Walk.{layers_of}
 use Rattle.network.proofs.admit.admit.Goals as goal
 
@@ -26,12 +26,7 @@ gather-requires g c =
     let e = entrance_narrow (layers_of c.args.bytes.now) (c.in_ok-plan.ensures.accepted.0 (layers_of c.args.bytes.now) d.1).formed.0.sized in
     omega (arith, c.if-samples-inputs.false, c.inputs.ensures.answer, d.2, e)
 
-pub returns-in-Ok : goal.returns-in-Ok
-returns-in-Ok g c =
+pub returns : goal.returns
+returns g c =
     let d = c.in_ok-plan.ensures.answer in
-    record { answer = λ f p q r. all_pass f c.args.bytes.now (map g.P.Sample.yields c.args.samples.now) _ p q r d.1 (omega (arith, c.if-places-outputs.false, c.outputs.ensures.answer, d.3)) (length-map c.args.samples.now g.P.Sample.yields ∙ c.if-samples-inputs.false ∙ c.inputs.ensures.answer ∙ d.2) (c.in_ok-plan.ensures.accepted.0 (layers_of c.args.bytes.now) d.1) _ c.in-Ok.ensures.answer }
-
-pub returns-in-Err : goal.returns-in-Err
-returns-in-Err g c =
-    let d = c.in_ok-plan.ensures.answer in
-    record { answer = λ f p q r. no_sample f c.args.bytes.now (map g.P.Sample.yields c.args.samples.now) _ p q r d.1 (omega (arith, c.if-places-outputs.false, c.outputs.ensures.answer, d.3)) (length-map c.args.samples.now g.P.Sample.yields ∙ c.if-samples-inputs.false ∙ c.inputs.ensures.answer ∙ d.2) c.in-Err.ensures.answer }
+    record { answer = λ f p q r. rw c.gather.ensures.answer (gathers_all f c.args.bytes.now (map g.P.Sample.yields c.args.samples.now) _ p q r d.1 (omega (arith, c.if-places-outputs.false, c.outputs.ensures.answer, d.3)) (length-map c.args.samples.now g.P.Sample.yields ∙ c.if-samples-inputs.false ∙ c.inputs.ensures.answer ∙ d.2) (c.in_ok-plan.ensures.accepted.0 (layers_of c.args.bytes.now) d.1) _ refl) }

@@ -1,58 +1,42 @@
-use Rattle.std.proofs.Common.{◌≡◌, ◌*◌, ◌≤◌, true, false, length, Some, None, sym, ap, ◌∙◌, arith, rules}
-use Rattle.std.proofs.lemmas.List.{length-drop}
-use Rattle.network.specs.Plan.{records}
-use Rattle.network.specs.Plan.{has_bad_length, accept, ends}
-use Rattle.network.proofs.Bytes.{records_none}
-use Rattle.network.proofs.Walking.{sound_more}
+use Rattle.std.proofs.Common.{◌≡◌, ◌≤◌, ◌∷◌, true, length, sym, ◌∙◌, subst, arith, rules}
+use Rattle.std.specs.Iterator.Adapters.{enumerate_source, enumerate_count}
+use Rattle.std.proofs.lemmas.Result.{err_from_is_err_and}
+use Rattle.network.specs.Plan.{has_bad_length}
+use Rattle.network.specs.Reading.{records_left}
 use Rattle.network.proofs.Planning.{long_plan}
-use Rattle.network.proofs.Walks.{not_long, walk_more, walk_stop, walk_end, plan_refused, plan_accepted, end_of, end_more, plan_width}
+use Rattle.network.proofs.Walks.{not_long, Walked, walk_goes, walk_breaks, walk_ends}
 use Rattle.network.proofs.decode.judge.Goals as goal
+use Rattle.network.proofs.decode.judge.Goals.{In-Some}
 
 pub returns-then-bad_length : goal.returns-then-bad_length
 returns-then-bad_length c =
     let b : has_bad_length (length c.args.bytes.now) ≡ true = cc in
     record { answer = long_plan c.args.bytes.now b }
 
-pub overflow_add-position : goal.overflow_add-position
-overflow_add-position c =
-    let s = c.in-Some.ensures.answer in
-    let b : has_bad_length (length c.args.bytes.now) ≡ false = cc in
-    let l = not_long (length c.args.bytes.now) b in
-    let k : 8 * c.loop-given.position ≤ 65528 = omega arith in
+-- the walk before a record
+here : (c : In-Some) → Walked c.args.bytes.now c.loop-position.next (enumerate_count c.loop-position.position-iterator) (c.in-Some.given ∷ records_left (enumerate_source c.next.new.self))
+here c = subst (Walked c.args.bytes.now c.loop-position.next (enumerate_count c.loop-position.position-iterator)) c.in-Some.ensures.steps.0 c.loop-position.invariant
+
+pub overflow_cast-position : goal.overflow_cast-position
+overflow_cast-position c =
+    let w = here (goal.at.overflow_cast-position c).In-Some in
+    let p : c.in-Some.position ≤ 65528 = omega (arith, not_long (length c.args.bytes.now) w.long, w.count, c.in-Some.ensures.steps.1) in
     search rules
 
-pub returns-in_default-accept : goal.returns-in_default-accept
-returns-in_default-accept c =
-    let s = c.in-Some.ensures.answer in
-    let b : has_bad_length (length c.args.bytes.now) ≡ false = cc in
-    let e : accept c.loop-given.next c.in-Some.given ≡ None = cc in
-    let w = walk_stop c.loop-given.next c.loop-given.position c.in-Some.given (records c.in-Some.tail.now) e in
-    record { answer = plan_refused c.args.bytes.now c.loop-given.position b (cc (s.parts, w)) }
+pub returns-in_err-next : goal.returns-in_err-next
+returns-in_err-next c =
+    let q = c.in_err-next.ensures in
+    let w = here (goal.at.returns-in_err-next c).In-Some in
+    let p = err_from_is_err_and c.from_residual.result c.from_residual.ensures.1 in
+    rw (p.1, p.2) (record { answer = walk_breaks c.args.bytes.now _ _ _ c.in-Some.position _ _ _ w c.accept.ensures.answer q.ok_part q.value c.in-Some.ensures.steps.1 })
 
-pub loop-given-smaller : goal.loop-given-smaller
-loop-given-smaller c =
-    let s = c.in-Some.ensures.answer in
-    omega (arith, length-drop 8 c.loop-given.rest.now, ap length s.after, s.enough)
+pub loop-position-preserved : goal.loop-position-preserved
+loop-position-preserved c =
+    let e = sym c.accept.ensures.answer ∙ c.in_ok-next.ensures.ok_part in
+    rw c.in-Some.ensures.steps.2 (walk_goes _ _ _ _ _ _ (here (goal.at.loop-position-preserved c).In-Some) e)
 
-pub loop-given-preserved : goal.loop-given-preserved
-loop-given-preserved c =
-    let s = c.in-Some.ensures.answer in
-    let e : accept c.loop-given.next c.in-Some.given ≡ Some c.in-Some-accept.then = cc in
-    let w = walk_more c.loop-given.next c.in-Some-accept.then c.loop-given.position c.in-Some.given (records c.in-Some.tail.now) e in
-    (sound_more c.loop-given.next c.in-Some-accept.then c.in-Some.given c.loop-given.invariant.0 e, omega (arith, length-drop 8 c.loop-given.rest.now, ap length s.after, s.enough), cc (s.parts, w), sym (end_more c.loop-given.next c.in-Some-accept.then c.in-Some.given (records c.in-Some.tail.now) e) ∙ ap (end_of c.loop-given.next) (sym s.parts) ∙ c.loop-given.invariant.3)
-
-pub returns-then-ends : goal.returns-then-ends
-returns-then-ends c =
-    let b : has_bad_length (length c.args.bytes.now) ≡ false = cc in
-    let t : ends c.loop-given.next ≡ true = cc in
-    let w = walk_end c.loop-given.next c.loop-given.position c.loop-given.rest.now true c.in_default.ensures.answer t in
-    let a = sym c.loop-given.invariant.2 ∙ w in
-    let n = ap (end_of c.loop-given.next) (sym (records_none c.loop-given.rest.now c.in_default.ensures.answer)) ∙ c.loop-given.invariant.3 in
-    record { answer = (plan_accepted c.args.bytes.now b a, c.width.ensures.answer ∙ plan_width c.args.bytes.now c.loop-given.next b a n) }
-
-pub returns-else-ends : goal.returns-else-ends
-returns-else-ends c =
-    let b : has_bad_length (length c.args.bytes.now) ≡ false = cc in
-    let t : ends c.loop-given.next ≡ false = cc in
-    let w = walk_end c.loop-given.next c.loop-given.position c.loop-given.rest.now false c.in_default.ensures.answer t in
-    record { answer = plan_refused c.args.bytes.now c.loop-given.position b (sym c.loop-given.invariant.2 ∙ w) }
+pub returns : goal.returns
+returns c =
+    let i = c.loop-position.invariant in
+    let w = subst (Walked c.args.bytes.now c.loop-position.next (enumerate_count c.loop-position.position-iterator)) c.in-None.ensures.steps.0.0 i in
+    rw c.ok_or-2.ensures.value (record { answer = walk_ends c.args.bytes.now c.loop-position.next _ _ w c.last_width.ensures.answer })

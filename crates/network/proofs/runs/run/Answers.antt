@@ -1,9 +1,12 @@
 use Rattle.network.proofs.Claiming.{whole}
 use Rattle.network.proofs.Encoding.{all_bytes}
 use Rattle.network.proofs.runs.run.Goals as goal
+use Rattle.network.proofs.runs.run.Goals.{in-Ok, in-Err}
 
-pub returns-in-Ok : goal.returns-in-Ok
-returns-in-Ok g c = record { whole = whole _ _ _ _ _ (all_bytes c.args.plan.now c.type_inv.plan) c.in-Ok.ensures.same c.ticks.ensures.answer c.in-Ok.ensures.lent; within = c.in-Ok.ensures.within }
-
-pub returns-in-Err : goal.returns-in-Err
-returns-in-Err g c = record { whole = whole _ _ _ _ _ (all_bytes c.args.plan.now c.type_inv.plan) c.in-Err.ensures.same c.ticks-in-Err.ensures.answer c.in-Err.ensures.lent; within = tt }
+pub returns-clause-whole : goal.returns-clause-whole
+returns-clause-whole g c =
+    let bytes = all_bytes c.args.plan.now c.type_inv.plan in
+    elim c.match-attempt.branch [
+      | in-Ok w ↦ rw w.unit-is (whole _ _ _ _ _ bytes w.in-Ok.ensures.same (rw w.unit-is at c.ticks_in.ensures.answer) w.in-Ok.ensures.lent)
+      | in-Err w ↦ rw w.unit-is (whole _ _ _ _ _ bytes w.in-Err.ensures.same (rw w.unit-is at c.ticks_in.ensures.answer) w.in-Err.ensures.lent)
+    ]

@@ -18,7 +18,7 @@ returns-in_err-unit g c =
 pub later-requires : goal.later-requires
 later-requires g c =
     let h = went_short _ _ hyperbolic _ _ _ _ _ _ c.in_ok-unit.ensures.answer in
-    let k : steps_made c.divide.result ≤ length linear = rw (made_steps g.S.Stage c.divide.result, c.divide.ensures.answer, mapped_steps) (passed_short _ _ linear _ _ _) in
+    let k : steps_made c.compute.result ≤ length linear = rw (made_steps g.S.Stage c.compute.result, c.compute.ensures.answer, mapped_steps) (passed_short _ _ linear _ _ _) in
     let a = hyperbolic_length in
     let b = linear_length in
     omega arith
@@ -28,4 +28,4 @@ returns g c =
     let f : SFits w32 c.args.net = c.ranges.net in
     let fx : SFits w32 c.in_ok-unit.field-0.value.x = search rules in
     let fy : SFits w32 c.in_ok-unit.field-0.value.y = search rules in
-    record { answer = tanh_seen _ _ _ g.S.Stage c.in_ok-unit.field-0.value _ _ _ _ (simp to_z-of_z at c.in_ok-unit.ensures.answer) (simp to_z-of_z at c.divide.ensures.answer) c.later.ensures.answer }
+    record { answer = tanh_seen _ _ _ g.S.Stage c.in_ok-unit.field-0.value _ _ _ _ (simp to_z-of_z at c.in_ok-unit.ensures.answer) (simp to_z-of_z at c.compute.ensures.answer) c.later.ensures.answer }

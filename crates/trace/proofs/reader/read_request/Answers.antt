@@ -1,5 +1,5 @@
-use Rattle.std.proofs.Common.{◌<◌, length, Err, sym, ap, ◌∙◌, arith}
-use Rattle.trace.proofs.Reading.{word_fits, word_misfits, words_end}
+use Rattle.std.proofs.Common.{◌<◌, length, Err, sym, ap, ◌∙◌, arith, rules}
+use Rattle.trace.proofs.Reading.{word_fits, word_misfits, words_read}
 use Rattle.trace.proofs.reader.read_request.Goals as goal
 
 pub returns-in-Err : goal.returns-in-Err
@@ -16,14 +16,8 @@ loop-word-preserved c =
     let l : c.loop-word.word-index < length c.args.words.now = omega arith in
     word_fits _ _ _ _ _ _ l c.word-item.is c.as_str.ensures.value c.in-Ok.ensures.answer c.loop-word.invariant
 
-pub returns-in-Ok-finish : goal.returns-in-Ok-finish
-returns-in-Ok-finish c =
+pub returns : goal.returns
+returns c =
     record {
-      answer = (c.loop-word.draft, words_end _ _ _ c.loop-word-test.false c.loop-word.invariant, sym c.in-Ok-finish.ensures.answer);
-    }
-
-pub returns-in-Err-finish : goal.returns-in-Err-finish
-returns-in-Err-finish c =
-    record {
-      answer = (c.loop-word.draft, words_end _ _ _ c.loop-word-test.false c.loop-word.invariant, sym c.in-Err-finish.ensures.answer);
+      answer = words_read _ _ _ _ _ _ c.loop-word-test.false c.loop-word.invariant c.finish.ensures.answer c.map_err.ensures.cases (λ w e h. search rules);
     }

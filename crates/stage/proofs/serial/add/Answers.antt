@@ -1,9 +1,0 @@
-use Rattle.std.proofs.Common.{w32, to_z, rules}
-use Rattle.stage.specs.Word.{shifted}
-use Rattle.stage.proofs.Signs.{taken}
-use Rattle.stage.proofs.serial.add.Goals as goal
-
-pub returns-in-Minus : goal.returns-in-Minus
-returns-in-Minus g c =
-    let e = taken (to_z w32 c.args.a) (shifted (to_z w32 c.args.b.bits) c.args.s.amount) in
-    search rules
