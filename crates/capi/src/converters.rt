@@ -10,7 +10,7 @@ use super::runs::run_on;
 use network::ConverterWord;
 use stage::{BitSerial, Parallel};
 
-// C has no generic functions, so the run has an exported name for each stage.
+// C has no generic functions, so the run has an exported name for each stage, and the parameters that its header names.
 #[unsafe(no_mangle)]
 pub extern "C" fn cordic_run_converter_parallel(
     plan: &[u8],

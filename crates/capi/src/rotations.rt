@@ -28,6 +28,7 @@ fn rotated(system: System, t: Triple) -> PassReport
     ensures answer { result ≡ pass_report (passed silent system (order system) Rotation t fresh) }
     ensures rotation_ends { unsigned_abs result.z ≤ 1 }
 {
+    // both arms take the unit apart, since it is linear
     match Idle::new(Parallel::new()).pass_in(system, Mode::Rotation, t) {
         Ok(Answer { unit, value, steps }) => {
             unit.into_stage();

@@ -11,6 +11,7 @@ pub enum Samples {
     Records(Vec<SampleRecord>),
 }
 
+// (`trace` has a request of its own, with one kind of stage and a probe or none.)
 #[derive(Drop)]
 pub enum Request {
     Pass {
@@ -54,7 +55,7 @@ impl fmt::Display for Wanted {
     }
 }
 
-// What is wrong with a line, or that memory ran out. (An error enum with a `From` for each, which `?` uses.)
+// What is wrong with a line, or that memory ran out. (The kit's derive of `From` is no plainer: it asks for a message and a `Debug` of each variant.)
 #[derive(Clone, Copy)]
 pub enum RequestFault {
     No(Wanted),

@@ -18,12 +18,17 @@ pub shift_is : (s : Shift) (n : ℕ) → s.amount ≡ min n 31 → s ≡ shift_o
 shift_is s n e = shift_same _ _ _ _ e
 
 -- the order that a table holds
-pub row_at : (rows : List Row) (ks : List Iteration) (i : ℕ) → map iteration rows ≡ ks → i < length rows
+row_at : (rows : List Row) (ks : List Iteration) (i : ℕ) → map iteration rows ≡ ks → i < length rows
     → Some (iteration (slice_index_or rows i (record { shift = 0; entry = 0 }))) ≡ nth ks i
 row_at [] ks i e h = absurd (not-suc-le-zero h)
 row_at (r ∷ rows) [] i e h = cc
 row_at (r ∷ rows) (k ∷ ks) zero e h = cc
 row_at (r ∷ rows) (k ∷ ks) (suc i) e h = let f : map iteration rows ≡ ks = cc in row_at rows ks i f (le_of_suc-le-suc h)
+
+-- the iteration that the row at a place is
+pub row_is : (rows : List Row) (ks : List Iteration) (i : ℕ) (k : Iteration) → map iteration rows ≡ ks → i < length rows
+    → k ≡ iteration (slice_index_or rows i (record { shift = 0; entry = 0 })) → Some k ≡ nth ks i
+row_is rows ks i k e h f = ap Some f ∙ row_at rows ks i e h
 
 pub as_long : (rows : List Row) (ks : List Iteration) → map iteration rows ≡ ks → length rows ≡ length ks
 as_long rows ks e = sym (length-map rows iteration) ∙ ap length e

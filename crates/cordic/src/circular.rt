@@ -61,7 +61,7 @@ impl Coordinate for Circular {
         System::Circular
     }
 
-    fn rows() -> &'static [Row]
+    fn rows(&self) -> &[Row]
         ensures answer { map iteration result.now ≡ circular }
         ensures rule { AllByRecursion (OfEntry NearAtan) (map iteration result.now) }
     {

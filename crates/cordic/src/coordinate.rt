@@ -17,8 +17,8 @@ pub trait Coordinate {
     fn system(&self) -> System
         ensures answer { result ≡ kind };
 
-    // The table, a row for each iteration, in order.
-    fn rows() -> &'static [Row]
+    // The table, a row for each iteration, in order. (`map iteration` is what a table means; each system says it of its own list.)
+    fn rows(&self) -> &[Row]
         ensures answer { map iteration result.now ≡ order };
 
     // The sum of all entries.

@@ -37,7 +37,8 @@ pub struct UnitFault {
     pub steps: u32,
 }
 
-// All that a fault says, by its number. The numbers are fixed for those outside, in printouts and in C; inside, the fault is the enum above.
+// All that a fault says, by its number. The numbers are fixed for those outside, in printouts and in C; inside, the fault is the enum above. (Its
+// fields stand one by one, as they are read there.)
 #[derive(Clone, Copy, PartialEq, Eq, Debug)]
 pub struct Report {
     pub number: u8,

@@ -62,7 +62,7 @@ impl Coordinate for Hyperbolic {
         System::Hyperbolic
     }
 
-    fn rows() -> &'static [Row]
+    fn rows(&self) -> &[Row]
         ensures answer { map iteration result.now ≡ hyperbolic }
         ensures rule { AllByRecursion (OfEntry NearAtanh) (map iteration result.now) }
     {

@@ -60,7 +60,7 @@ impl Coordinate for Linear {
         System::Linear
     }
 
-    fn rows() -> &'static [Row]
+    fn rows(&self) -> &[Row]
         ensures answer { map iteration result.now ≡ linear }
         ensures rule { AllByRecursion (OfEntry PowerEntry) (map iteration result.now) }
     {

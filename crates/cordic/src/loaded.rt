@@ -55,7 +55,7 @@ impl<S: Stage, C: Coordinate + Copy> Loaded<S, C> {
             system,
             mode,
         } = self;
-        let rows = C::rows();
+        let rows = system.rows();
         for (i, row) in rows.iter().enumerate() {
             // fits, as the number of rows below does: an order has at most 64 iterations
             let steps = i as u32;

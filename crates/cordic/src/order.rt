@@ -29,6 +29,7 @@ impl From<Row> for Iteration {
     }
 }
 
+// A table reads as two columns, where literals of the struct would take four lines a row.
 macro_rules! rows {
     ($(($shift:literal, $entry:literal)),* $(,)?) => {
         [$(Row { shift: $shift, entry: $entry }),*]

@@ -1,4 +1,4 @@
-// A pass: one load, its run and the read-out.
+// A pass: one load, its run and the read-out. (`state_of` and `seen` are the words in which contracts speak of a unit and of what it gives back.)
 ghost use Rattle.std.specs.Prelude.{◌≡◌, ◌≤◌, pos, ◌+ℤ◌, ◌≤ℤ◌, unsigned_abs};
 ghost use Rattle.stage.specs.Stage.{Rule};
 ghost use Rattle.stage.specs.Word.{shifted};

@@ -40,7 +40,7 @@ impl<C: Coordinate> Start<C> {
         ensures small { nat_abs result ≤ 2 ^ 37 }
     {
         let mut sum = 0;
-        for row in C::rows() {
+        for row in self.system.rows() {
             sum += self.part(Iteration::from(*row).shift);
         }
         sum

@@ -26,9 +26,9 @@ pub fn rows_of(system: System) -> &'static [Row]
     ensures answer { map iteration result.now ≡ order system }
 {
     match system {
-        System::Linear => Linear::rows(),
-        System::Circular => Circular::rows(),
-        System::Hyperbolic => Hyperbolic::rows(),
+        System::Linear => Linear.rows(),
+        System::Circular => Circular.rows(),
+        System::Hyperbolic => Hyperbolic.rows(),
     }
 }
 

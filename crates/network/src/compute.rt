@@ -1,4 +1,4 @@
-// A linear pass, and the register that it computes.
+// A linear pass, and the register that it computes. (Contracts from here up speak of a unit by `state_of`, as those of the unit do.)
 ghost use Rattle.std.specs.Prelude.{◌≡◌};
 ghost use Rattle.stage.specs.declared.step.System.TheVariants.{Linear as LinearSystem};
 ghost use Rattle.cordic.specs.Outcome.{mapped};

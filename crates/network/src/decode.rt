@@ -1,4 +1,4 @@
-// The decoder of plans: one walk over the records.
+// The decoder of plans: one walk over the records. (`records` and `layers_of` are what bytes mean as a plan.)
 ghost use Rattle.std.specs.Prelude.{◌≡◌, ℕ, List, Ok, Err, MatchResult};
 ghost use Rattle.network.specs.Plan.{LayerOf, has_bad_length, plan_of, records};
 ghost use Rattle.network.specs.Network.{Describes, BreaksAt};

@@ -1,4 +1,4 @@
-// A neuron at its inputs: the net, then the activation.
+// A neuron at its inputs: the net, then the activation. (Unit and inputs stay two: the unit is moved on, the inputs are lent to each neuron.)
 ghost use Rattle.std.specs.Prelude.{◌≡◌};
 ghost use Rattle.cordic.specs.Outcome.{mapped};
 ghost use Rattle.cordic.specs.Seen.{state_of, seen};

@@ -51,7 +51,7 @@ pub(crate) fn run_layer<S: Stage>(
         let (neuron, tail) = Neuron::read(rest, inputs.len());
         let site = Site {
             layer: head.number,
-            // widens; by `From` the proof has an equation more, and a reader no more
+            // widens; with `u32::from` the written proofs, which name the number itself, did not close
             neuron: number as u32,
         };
         let fired = fire(unit, head.activation, inputs, &neuron);

@@ -40,12 +40,14 @@ pub(crate) fn run_layers<S: Stage>(
         steps: 0,
     };
     let mut rest = plan;
+    // four, as `START` of the decoder has it; what is left is what the reader of a record answers, and no index
     for number in 0..4 {
         let Some((head, tail)) = Record::read(rest) else {
             break;
         };
         let Answer { unit, value, steps } = answer;
         let Ok(activation) = Activation::try_from(head.flag) else {
+            // no plan has another flag
             unreachable()
         };
         let opened = Head {
@@ -53,7 +55,7 @@ pub(crate) fn run_layers<S: Stage>(
             activation,
             neurons: head.index,
         };
-        // the cast widens; by `From` the proof has an equation more, and a reader no more
+        // widens; with `usize::from` the written proofs, which name the number itself, did not close
         rest = after_neurons(tail, head.index as usize, value.len());
         answer = later(run_layer(unit, opened, tail, value.as_slice()), steps)?;
     }

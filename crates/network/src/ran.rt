@@ -1,4 +1,4 @@
-// What a run hands back.
+// What a run hands back. (Steps and ticks stand beside each other wherever a run is told, and mean something each for itself.)
 use super::faults::NetworkFault;
 use cordic::Idle;
 

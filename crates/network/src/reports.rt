@@ -5,7 +5,7 @@ ghost use Rattle.network.specs.Faults.{reported};
 use super::faults::{NetworkFault, Report};
 
 impl NetworkFault {
-    // (A method and no `From`: its name says what is made.)
+    // (A method and no `From`: its name says what is made. The unit's faults have their own, with other fields.)
     pub fn report(self) -> Report
         ensures answer { result ≡ reported self }
     {

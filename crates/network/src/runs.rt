@@ -1,4 +1,4 @@
-// The network run: the one call that a program makes.
+// The network run: the one call that a program makes. (Plan, samples and places stay three: each is lent by someone else.)
 ghost use Rattle.std.specs.Prelude.{◌≡◌, ◌≤◌, length, IfOk};
 ghost use Rattle.cordic.specs.Outcome.{mapped};
 ghost use Rattle.network.specs.Claim.{Whole};

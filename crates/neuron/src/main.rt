@@ -36,6 +36,7 @@ fn run(rt: &HostRuntime) -> io::Result<()> {
     let plan = plan_bytes(rt, heap)?;
     let mut input = Vec::new(heap);
     rt.stdin()
+        // widens: a `usize` has no `From` into a `u64`
         .take(input::LIMIT as u64)
         .read_to_end(&mut input)?;
     let text = printout(heap, plan.as_slice(), input.as_slice())?;

@@ -32,7 +32,7 @@ impl<C: Cell> Hardware<C> {
         }
     }
 
-    // The arms are the rule as it is written: m is 0, +1 or −1.
+    // The arms are the rule as it is written: m is 0, +1 or −1. (The three clauses speak of a new cell by what it keeps, which is its meaning.)
     fn next_x(&self, s: Step) -> Option<C>
         ensures answer { option_map C.kept result ≡ in_word (turned s (⟦<Hardware<C> as Stage>⟧.triple self.now)).x }
     {

@@ -18,6 +18,7 @@ pub enum System {
     Hyperbolic,
 }
 
+// (Each enum reads and prints its own names: a function over a table of them would have as many lines.)
 impl FromStr for System {
     type Err = UnknownName;
 

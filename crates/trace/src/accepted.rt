@@ -1,4 +1,4 @@
-// An accepted step, as it is printed.
+// An accepted step, as it is printed: a row of the table, whose shift is a plain number, where what a stage is told has a shift amount.
 use stage::Direction;
 
 // Its place in the order, from 1, and what it was told.

@@ -60,7 +60,7 @@ fn print_on_stage<S: Stage + Drop>(
 }
 
 pub(crate) fn print_trace(out: &impl Print, request: Request) -> io::Result<()> {
-    // two types of stage, whose meaning stands at the type, which a trait object has not
+    // two types of stage, whose meaning stands at the type, which a trait object has not; the stage is moved, the request lent
     match request.kind {
         Kind::Parallel => print_on_stage(out, Parallel::new(), &request),
         Kind::BitSerial => print_on_stage(out, BitSerial::new(), &request),

@@ -31,6 +31,7 @@ fn sign(direction: Direction) -> char
 }
 
 impl Mark {
+    // (A method, since the `Display` of a mark is its whole column.)
     fn label(self) -> &'static str
         ensures answer { result.now ≡ mark_label self }
     {
