@@ -1,5 +1,5 @@
 // The faults of the unit. A stage's fault sits inside it.
-ghost use Rattle.std.specs.Prelude.{Some};
+ghost use Rattle.std.specs.Prelude.{◌≡◌, Some};
 ghost use Rattle.cordic.specs.Names.{sentence_of};
 
 use super::mode::Mode;
@@ -16,15 +16,24 @@ pub enum Cause {
     Overflowed { step: u32, overflow: Overflow },
 }
 
+impl Cause {
+    // What it means, in a sentence.
+    pub fn sentence(self) -> &'static str
+        ensures answer { result.now ≡ sentence_of self }
+    {
+        match self {
+            Cause::Unreachable => "no choice of directions brings z within one unit of zero",
+            Cause::BadStart => "vectoring cannot start from this x and y",
+            Cause::Overflowed { .. } => "a register would leave the word",
+        }
+    }
+}
+
 impl fmt::Display for Cause {
     ghost output = { λ cause. Some (sentence_of cause) };
 
     fn fmt<W: fmt::Write>(&self, f: &mut fmt::Formatter<W>) -> fmt::Result {
-        f.write_str(match self {
-            Cause::Unreachable => "no choice of directions brings z within one unit of zero",
-            Cause::BadStart => "vectoring cannot start from this x and y",
-            Cause::Overflowed { .. } => "a register would leave the word",
-        })
+        f.write_str(self.sentence())
     }
 }
 

@@ -29,14 +29,23 @@ impl FromStr for Mode {
     }
 }
 
+impl Mode {
+    // Its name. (Beside the `Display`, as for the names of `stage`.)
+    pub fn name(self) -> &'static str
+        ensures answer { result.now ≡ name_of_mode self }
+    {
+        match self {
+            Mode::Rotation => "rotation",
+            Mode::Vectoring => "vectoring",
+        }
+    }
+}
+
 impl fmt::Display for Mode {
     ghost output = { λ mode. Some (name_of_mode mode) };
 
     fn fmt<W: fmt::Write>(&self, f: &mut fmt::Formatter<W>) -> fmt::Result {
-        f.write_str(match self {
-            Mode::Rotation => "rotation",
-            Mode::Vectoring => "vectoring",
-        })
+        f.write_str(self.name())
     }
 }
 

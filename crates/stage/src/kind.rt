@@ -27,13 +27,21 @@ impl FromStr for Kind {
     }
 }
 
+impl Kind {
+    pub fn name(self) -> &'static str
+        ensures answer { result.now ≡ name_of_kind self }
+    {
+        match self {
+            Kind::Parallel => "parallel",
+            Kind::BitSerial => "bit-serial",
+        }
+    }
+}
+
 impl fmt::Display for Kind {
     ghost output = { λ kind. Some (name_of_kind kind) };
 
     fn fmt<W: fmt::Write>(&self, f: &mut fmt::Formatter<W>) -> fmt::Result {
-        f.write_str(match self {
-            Kind::Parallel => "parallel",
-            Kind::BitSerial => "bit-serial",
-        })
+        f.write_str(self.name())
     }
 }

@@ -1,5 +1,5 @@
 // The three registers of a stage. Each is a word: 32 bits, signed, 28 of them fraction bits.
-ghost use Rattle.std.specs.Prelude.{Some};
+ghost use Rattle.std.specs.Prelude.{◌≡◌, Some};
 ghost use Rattle.stage.specs.Names.{name_of_register};
 
 use std::fmt;
@@ -18,14 +18,22 @@ pub enum Register {
     Z,
 }
 
+impl Register {
+    pub fn name(self) -> &'static str
+        ensures answer { result.now ≡ name_of_register self }
+    {
+        match self {
+            Register::X => "x",
+            Register::Y => "y",
+            Register::Z => "z",
+        }
+    }
+}
+
 impl fmt::Display for Register {
     ghost output = { λ r. Some (name_of_register r) };
 
     fn fmt<W: fmt::Write>(&self, f: &mut fmt::Formatter<W>) -> fmt::Result {
-        f.write_str(match self {
-            Register::X => "x",
-            Register::Y => "y",
-            Register::Z => "z",
-        })
+        f.write_str(self.name())
     }
 }

@@ -34,15 +34,24 @@ impl FromStr for System {
     }
 }
 
+impl System {
+    // Its name. (Beside the `Display`, whose law speaks of a text that could be written: a name is always there.)
+    pub fn name(self) -> &'static str
+        ensures answer { result.now ≡ name_of_system self }
+    {
+        match self {
+            System::Linear => "linear",
+            System::Circular => "circular",
+            System::Hyperbolic => "hyperbolic",
+        }
+    }
+}
+
 impl fmt::Display for System {
     ghost output = { λ system. Some (name_of_system system) };
 
     fn fmt<W: fmt::Write>(&self, f: &mut fmt::Formatter<W>) -> fmt::Result {
-        f.write_str(match self {
-            System::Linear => "linear",
-            System::Circular => "circular",
-            System::Hyperbolic => "hyperbolic",
-        })
+        f.write_str(self.name())
     }
 }
 

@@ -34,7 +34,16 @@ impl fmt::Display for Wanted {
     ghost output = { λ wanted. Some (wanted_name wanted) };
 
     fn fmt<W: fmt::Write>(&self, f: &mut fmt::Formatter<W>) -> fmt::Result {
-        f.write_str(match self {
+        f.write_str(self.name())
+    }
+}
+
+impl Wanted {
+    // What it is called. (Beside the `Display`, as for the names of `stage`.)
+    fn name(self) -> &'static str
+        ensures answer { result.now ≡ wanted_name self }
+    {
+        match self {
             Wanted::System => "coordinate system",
             Wanted::Mode => "mode",
             Wanted::X => "number for x",
@@ -42,11 +51,9 @@ impl fmt::Display for Wanted {
             Wanted::Z => "number for z",
             Wanted::Kind => "stage",
             Wanted::Setting => "option",
-        })
+        }
     }
-}
 
-impl Wanted {
     // What it can be. (A method beside the `Display` of its name, since a type has one.)
     fn choices(self) -> &'static str
         ensures answer { result.now ≡ wanted_choices self }
