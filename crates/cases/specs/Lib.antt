@@ -1,3 +1,4 @@
--- What a stage is loaded with, and the digest.
+-- What a stage is loaded with, the digits of a plan, and the digest.
 pub mod Start
+pub mod Digits
 pub mod Digest
