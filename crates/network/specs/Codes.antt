@@ -6,6 +6,13 @@ use Rattle.network.specs.declared.activation.Activation.{Activation}
 use Rattle.network.specs.declared.activation.Activation.TheVariants.{Identity, Tanh}
 use Rattle.network.specs.declared.code.UnknownCode.{UnknownCode}
 
+-- the byte of each kind
+abbrev pub code_of : RecordKind → ℕ
+code_of Layer = 1
+code_of Bias = 2
+code_of Weight = 3
+code_of Sample = 4
+
 -- 1 to 4; any other byte stands for no kind
 abbrev pub known_kind : ℕ → Result RecordKind UnknownCode
 known_kind code =

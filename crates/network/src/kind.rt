@@ -1,6 +1,6 @@
 // The kinds of records, and the byte that stands for each.
-ghost use Rattle.std.specs.Prelude.{◌≡◌};
-ghost use Rattle.network.specs.Codes.{known_kind};
+ghost use Rattle.std.specs.Prelude.{◌≡◌, Ok};
+ghost use Rattle.network.specs.Codes.{code_of, known_kind};
 
 use super::code::UnknownCode;
 
@@ -10,6 +10,21 @@ pub enum RecordKind {
     Bias,
     Weight,
     Sample,
+}
+
+impl RecordKind {
+    // The byte that stands for it.
+    pub(crate) fn code(self) -> u8
+        ensures answer { result ≡ code_of self }
+        ensures means { known_kind result ≡ Ok self }
+    {
+        match self {
+            RecordKind::Layer => 1,
+            RecordKind::Bias => 2,
+            RecordKind::Weight => 3,
+            RecordKind::Sample => 4,
+        }
+    }
 }
 
 impl TryFrom<u8> for RecordKind {

@@ -1,11 +1,12 @@
 // What the next record of a plan has to be.
 
-// The layer that is being read: its size, and how many layers may still follow it.
+// The layer that is being read: its size, and how many layers may still follow it. (`left` comes first, where `Next` has the tag of `before`: a
+// number that shares its bytes with a tag is put together anew at each record.)
 #[derive(Clone, Copy)]
 pub struct Shape {
+    pub left: u8,
     pub neurons: u16,
     pub inputs: u16,
-    pub left: u8,
 }
 
 #[derive(Clone, Copy)]

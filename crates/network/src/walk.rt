@@ -54,31 +54,33 @@ fn after_weight(shape: Shape, neuron: u16, input: u16) -> Next
 }
 
 impl Next {
-    // What may follow a record, where it may stand at all. (The flag of a bias or a weight is 0 and stands for nothing.)
+    // What may follow a record, where it may stand at all. (The flag of a bias or a weight is 0 and stands for nothing. The kind is compared by its
+    // byte: to look each byte up among the kinds takes a third more time over a plan.)
     pub(crate) fn accept(self, given: Record) -> Option<Next>
         requires { Sound self }
         ensures answer { result ≡ accept self given }
     {
-        match (self, RecordKind::try_from(given.kind).ok()?) {
-            (Next::Layer { before, left }, RecordKind::Layer) => open_layer(before, left, given),
-            (Next::Bias { shape, neuron }, RecordKind::Bias)
-                if given.flag == 0 && given.index == neuron => {
+        match self {
+            Next::Layer { before, left } if given.kind == RecordKind::Layer.code() => {
+                open_layer(before, left, given)
+            }
+            Next::Bias { shape, neuron }
+                if given.kind == RecordKind::Bias.code()
+                    && given.flag == 0
+                    && given.index == neuron => {
                 Some(Next::Weight {
                     shape,
                     neuron,
                     input: 0,
                 })
             }
-            (
-                Next::Weight {
-                    shape,
-                    neuron,
-                    input,
-                },
-                RecordKind::Weight,
-            ) if given.flag == 0 && given.index == input => {
-                Some(after_weight(shape, neuron, input))
-            }
+            Next::Weight {
+                shape,
+                neuron,
+                input,
+            } if given.kind == RecordKind::Weight.code()
+                && given.flag == 0
+                && given.index == input => { Some(after_weight(shape, neuron, input)) }
             _ => None,
         }
     }
