@@ -20,7 +20,7 @@ counts : (places ys : List ℤ) (k : ℕ) → k ≤ length places → take k pla
 counts places ys k h e = sym (length-take-le k places h) ∙ ap length e
 
 module _ (f : Feed) (per : ℕ) (places : List ℤ) (n ticks : ℕ) (s : State) where
-  told_by : (o : Out (List (List Working)) NetworkFault) (r : Result ℕ NetworkFault) → outcome places n s r ≡ mapped outputs o → ticks ≡ steps_in o * per → IfOk r (λ k. k ≤ length places) → told_run r n ticks ≡ report_of_run per o
+  pub told_by : (o : Out (List (List Working)) NetworkFault) (r : Result ℕ NetworkFault) → outcome places n s r ≡ mapped outputs o → ticks ≡ steps_in o * per → IfOk r (λ k. k ≤ length places) → told_run r n ticks ≡ report_of_run per o
   told_by (went w m u) (Ok k) e t h =
       let a : n ≡ m = cc in
       rw (counts places (outputs w) k h cc, a, t) refl
@@ -32,7 +32,7 @@ module _ (f : Feed) (per : ℕ) (places : List ℤ) (n ticks : ℕ) (s : State) 
       rw (b, a, t) refl
 
 module _ (f : Feed) (places : List ℤ) (n : ℕ) (s : State) where
-  few_by : (o : Out (List (List Working)) NetworkFault) (r : Result ℕ NetworkFault) → recurrence f ≡ o → outcome places n s r ≡ mapped outputs o → IfOk r (λ k. k ≤ length places) → IfOk r (λ k. k ≤ 64)
+  pub few_by : (o : Out (List (List Working)) NetworkFault) (r : Result ℕ NetworkFault) → recurrence f ≡ o → outcome places n s r ≡ mapped outputs o → IfOk r (λ k. k ≤ length places) → IfOk r (λ k. k ≤ 64)
   few_by (went w m u) (Ok k) g e h =
       let q = entering f w m u g in
       let c = counts places (outputs w) k h cc in

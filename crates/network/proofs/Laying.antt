@@ -58,10 +58,14 @@ module _ {X : Type 0} (S : Ghosts X) (rule : Rule) (l : ℕ) (a : Activation) (x
   here : laid rule l a xs ys j all s ≡ onward (λ y. laid rule l a xs (ys ++ y ∷ []) (j + 1) ns) (inside (located l j) (mapped output (fired rule a xs v s)))
   here = rw are (laid_more rule l a xs ys j v ns s)
 
-  pub layer_on : (b : Answer X ℤ) (zs : List ℤ) → Ok b ≡ placed (site_at l j) q → SFits w32 b.value → zs ≡ ys ++ to_z w32 (of_z w32 b.value) ∷ [] → counted b.steps (laid rule l a xs zs (j + 1) ns (state_of S b.unit.stage)) ≡ whole
-  layer_on b zs g f p =
+  pub layer_on : (b : Answer X ℤ) → Ok b ≡ placed (site_at l j) q → counted b.steps (laid rule l a xs (ys ++ b.value ∷ []) (j + 1) ns (state_of S b.unit.stage)) ≡ whole
+  layer_on b g =
       let o = ok_seen (site_at l j) n S in_network r q b k g ∙ ap (λ x. inside (in_network (site_at l j)) (counted n x)) e ∙ located_counted l j n _ in
-      rw (p, to_z-of_z w32 b.value f) (loop_on n _ inv (λ y. laid rule l a xs (ys ++ y ∷ []) (j + 1) ns) _ here o)
+      loop_on n _ inv (λ y. laid rule l a xs (ys ++ y ∷ []) (j + 1) ns) _ here o
+
+  -- the same, of outputs that end with the word as a vector holds it
+  pub layer_kept : (b : Answer X ℤ) (zs : List ℤ) → Ok b ≡ placed (site_at l j) q → SFits w32 b.value → zs ≡ ys ++ to_z w32 (of_z w32 b.value) ∷ [] → counted b.steps (laid rule l a xs zs (j + 1) ns (state_of S b.unit.stage)) ≡ whole
+  layer_kept b zs g f p = rw (p, to_z-of_z w32 b.value f) (layer_on b g)
 
   pub layer_halt : (w : Within X Site NeuronFault) → Err w ≡ placed (site_at l j) q → seen {V = List ℤ} S (Err (raised in_network w)) ≡ whole
   layer_halt w g =

@@ -1,6 +1,6 @@
 use Rattle.std.proofs.Common.{arith, w32, SFits, rules}
 use Rattle.std.proofs.lemmas.Result.{err_from_is_err_and}
-use Rattle.network.proofs.Laying.{site_at, fire_short, layer_on, layer_halt, layer_done}
+use Rattle.network.proofs.Laying.{site_at, fire_short, layer_kept, layer_halt, layer_done}
 use Rattle.network.proofs.Places.{placed_steps}
 use Rattle.network.proofs.ReadBack.{ahead_enough, ahead_more, ahead_none}
 use Rattle.network.proofs.layer.run_layer.Goals as goal
@@ -37,7 +37,7 @@ loop-number-preserved g c =
       (λ all ls h.
           let a = c.loop-number.invariant.0 all ls h in
           let m = ahead_more _ _ _ _ a.0 ls _ _ a.1 (omega arith) c.read-neuron.ensures.answer in
-          let o = layer_on g.S.Stage g.S.Stage.rule c.args.head.number c.args.head.activation c.args.inputs.now _ c.loop-number.number _ a.0 m.others c.read-neuron.result.0 _ a.2 m.are
+          let o = layer_kept g.S.Stage g.S.Stage.rule c.args.head.number c.args.head.activation c.args.inputs.now _ c.loop-number.number _ a.0 m.others c.read-neuron.result.0 _ a.2 m.are
           _ _ c.fire-fired.ensures.answer c.later.ensures.answer _ _ c.in_ok-unit.ensures.answer y c.push.ensures.items in
           (m.others, m.ahead, o)),
       omega arith,
