@@ -25,11 +25,11 @@ refusal_carry : (f : Tail → Tail) (x : Result Tail ℕ) → refusal (carry f x
 refusal_carry f (Ok t) = refl
 refusal_carry f (Err p) = refl
 
-walk_more : (n m : Next) (at : ℕ) (r : Record) (rs : List Record) → accept n r ≡ Some m → refusal (parse n at (r ∷ rs)) ≡ refusal (parse m (at + 1) rs)
+pub walk_more : (n m : Next) (at : ℕ) (r : Record) (rs : List Record) → accept n r ≡ Some m → refusal (parse n at (r ∷ rs)) ≡ refusal (parse m (at + 1) rs)
 unfolding parse
 walk_more n m at r rs e = refusal_carry (onto n r) (follow (accept n r) at (λ m. parse m (at + 1) rs)) ∙ ap (λ o. refusal (follow o at (λ m. parse m (at + 1) rs))) e
 
-walk_stop : (n : Next) (at : ℕ) (r : Record) (rs : List Record) → accept n r ≡ None → refusal (parse n at (r ∷ rs)) ≡ Some at
+pub walk_stop : (n : Next) (at : ℕ) (r : Record) (rs : List Record) → accept n r ≡ None → refusal (parse n at (r ∷ rs)) ≡ Some at
 unfolding parse
 walk_stop n at r rs e = refusal_carry (onto n r) (follow (accept n r) at (λ m. parse m (at + 1) rs)) ∙ ap (λ o. refusal (follow o at (λ m. parse m (at + 1) rs))) e
 
@@ -41,11 +41,11 @@ judged_ok : (x : Result Tail ℕ) → refusal x ≡ None → described x ≡ Ok 
 judged_ok (Ok t) e = refl
 judged_ok (Err q) e = cc
 
-plan_refused : (bs : List ℕ) (p : ℕ) → has_bad_length (length bs) ≡ false → refusal (parse (Layer None 4) 0 (records bs)) ≡ Some p → plan_of bs ≡ Err (PlanRecord p)
+pub plan_refused : (bs : List ℕ) (p : ℕ) → has_bad_length (length bs) ≡ false → refusal (parse (Layer None 4) 0 (records bs)) ≡ Some p → plan_of bs ≡ Err (PlanRecord p)
 unfolding plan_of
 plan_refused bs p b e = rw b (judged_err (parse (Layer None 4) 0 (records bs)) p e)
 
-plan_accepted : (bs : List ℕ) → has_bad_length (length bs) ≡ false → refusal (parse (Layer None 4) 0 (records bs)) ≡ None → plan_of bs ≡ Ok (layers_of bs)
+pub plan_accepted : (bs : List ℕ) → has_bad_length (length bs) ≡ false → refusal (parse (Layer None 4) 0 (records bs)) ≡ None → plan_of bs ≡ Ok (layers_of bs)
 unfolding plan_of
 plan_accepted bs b e = rw b (judged_ok (parse (Layer None 4) 0 (records bs)) e)
 

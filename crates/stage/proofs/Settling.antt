@@ -18,7 +18,7 @@ settled_is : (s : Step) (t : Triple) → settled t (in_word (turned s t).x) (in_
 unfolding stepped
 settled_is s t = let new = turned s t in by_tests t new (is_word new.x) (is_word new.y) (is_word new.z)
 
-settles : (s : Step) (t : Triple) {x y z : Option ℤ} → x ≡ in_word (turned s t).x → y ≡ in_word (turned s t).y → z ≡ in_word (turned s t).z
+pub settles : (s : Step) (t : Triple) {x y z : Option ℤ} → x ≡ in_word (turned s t).x → y ≡ in_word (turned s t).y → z ≡ in_word (turned s t).z
     → settled t x y z ≡ stepped s t
 settles s t e f g = rw (e, f, g) (settled_is s t)
 

@@ -148,10 +148,10 @@ module _ (a : ℕ) (f : Bool) (v : ℤ) (s first p word carry into : ℕ) (h : a
   exact_is : exact a (low f (of_z w64 v / 2 ^ s) 32) first ≡ to_z w32 a +ℤ complemented f (shifted v s) +ℤ pos first
   exact_is = ap (λ z. to_z w32 a +ℤ z +ℤ pos first) (complement_bits f (of_z w64 v / 2 ^ s) ∙ ap (complemented f) (shift_bits v s g k))
 
-  adds_in : into ≡ carry → Some (to_z w32 word) ≡ in_word (to_z w32 a +ℤ complemented f (shifted v s) +ℤ pos first)
+  pub adds_in : into ≡ carry → Some (to_z w32 word) ≡ in_word (to_z w32 a +ℤ complemented f (shifted v s) +ℤ pos first)
   adds_in e = sum_fits left_over e ∙ ap in_word exact_is
 
-  adds_out : into ≢ carry → None ≡ in_word (to_z w32 a +ℤ complemented f (shifted v s) +ℤ pos first)
+  pub adds_out : into ≢ carry → None ≡ in_word (to_z w32 a +ℤ complemented f (shifted v s) +ℤ pos first)
   adds_out e = sum_leaves left_over e ∙ ap in_word exact_is
 
 -- the places above the word hold its sign bit
@@ -195,7 +195,7 @@ bit_high n p h k l =
     high_by (n / 2 ^ 31) (p - 32) (omega arith) (omega arith) ∙ ap (λ v. v % 2) (sym (ap (λ v. v / 2 ^ (p - 32)) d) ∙ s)
 
 -- to subtract is to add the complement and 1
-taken : (a v : ℤ) → a +ℤ complemented true v +ℤ pos 1 ≡ a -ℤ v
+pub taken : (a v : ℤ) → a +ℤ complemented true v +ℤ pos 1 ≡ a -ℤ v
 taken a (pos n) = omega (arith, ints)
 taken a (negsuc n) = omega (arith, ints)
 

@@ -28,6 +28,7 @@ impl FromStr for Kind {
 }
 
 impl Kind {
+    // Its name.
     pub fn name(self) -> &'static str
         ensures answer { result.now ≡ name_of_kind self }
     {

@@ -19,6 +19,7 @@ pub enum Register {
 }
 
 impl Register {
+    // Its name.
     pub fn name(self) -> &'static str
         ensures answer { result.now ≡ name_of_register self }
     {

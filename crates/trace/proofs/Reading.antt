@@ -71,7 +71,7 @@ module _ (ws : List (String Global)) (i : ℕ) where
       inv ∙ at_drop_more (drafted (Ok d)) ws i w l ∙ ap (λ r. drafted r (drop (i + 1) ws)) (next_is w bs d (Err m) at e h)
       ∙ misfit_stays (m, bs) (drop (i + 1) ws)
 
-  words_end : (d : Draft) → length ws ≤ i → drafted (Ok blank) ws ≡ drafted (Ok d) (drop i ws) → drafted (Ok blank) ws ≡ Ok d
+  pub words_end : (d : Draft) → length ws ≤ i → drafted (Ok blank) ws ≡ drafted (Ok d) (drop i ws) → drafted (Ok blank) ws ≡ Ok d
   words_end d l inv = inv ∙ at_drop_all (drafted (Ok d)) ws i l
 
   pub words_read : (d : Draft) (f : Result Request Wanted) (r : Result Request RequestFault) (G : Wanted → RequestFault → Type 0) → length ws ≤ i
